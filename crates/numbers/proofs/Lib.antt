@@ -1,0 +1,5 @@
+-- The laws of numbers, bits and fields.
+pub mod BigEndianLaws
+pub mod BitsLaws
+pub mod FieldLaws
+mod Samples
