@@ -1,5 +1,6 @@
 -- The laws of numbers, bits and fields.
 pub mod BigEndianLaws
 pub mod BitsLaws
+pub mod Bools
 pub mod FieldLaws
 mod Samples

@@ -1,0 +1,2 @@
+-- The laws of the layout, and the samples.
+mod SamplesHold

@@ -1,0 +1,99 @@
+// The public types of the chip data reader, its limits and its keywords. The layout and its rules are in specs/.
+ghost use mathlib.Core.Path.{_≡_};
+ghost use Rattle.format.specs.Refusals.{numberOf};
+
+// Limits on a file: its bytes, register instances, node instances, and levels of an expression.
+pub const FILE_LIMIT: usize = 65_536;
+
+pub const REGISTER_LIMIT: usize = 1_024;
+
+pub const NODE_LIMIT: usize = 256;
+
+pub const LEVELS: usize = 16;
+
+// The four section keywords.
+pub const CHIPDATA: [u8; 8] = *b"CHIPDATA";
+
+pub const REGS: [u8; 4] = *b"REGS";
+
+pub const NODE: [u8; 4] = *b"NODE";
+
+pub const ROOT: [u8; 4] = *b"ROOT";
+
+// Why an input is refused: a case for each number of the refusal table, in its order.
+pub enum Kind {
+    FileTooLong,
+    FieldCut,
+    WrongKeyword,
+    WrongVersion,
+    ZeroCount,
+    UnknownValue,
+    Duplicate,
+    TooManyInstances,
+    BadExpression,
+    BitTooHigh,
+    BytesAfterEnd,
+    NameAbsent,
+    RegisterUnfit,
+    ChildCycle,
+    BadAttentionType,
+    NoRoot,
+    ReadingsUnfit,
+    RegisterUnread,
+    NoRoom,
+}
+
+// A refusal: why, and where.
+pub struct Refusal {
+    pub kind: Kind,
+    pub place: usize,
+}
+
+// What an accepted file holds.
+pub struct Summary {
+    pub model: u64,
+    pub registers: usize,
+    pub register_instances: usize,
+    pub nodes: usize,
+    pub node_instances: usize,
+    pub roots: usize,
+}
+
+// The checker's answer.
+pub enum Checked {
+    Accepted(Summary),
+    Refused(Refusal),
+}
+
+// The address query's answer: the address's place in the file and its size in bytes.
+pub enum Address {
+    At(usize, usize),
+    Refused(Refusal),
+}
+
+// The number of the refusal table.
+pub fn number(k: Kind) -> u8
+    ensures { λ r. ⌜ r ≡ numberOf k ⌝ }
+{
+    match k {
+        Kind::FileTooLong => 1,
+        Kind::FieldCut => 2,
+        Kind::WrongKeyword => 3,
+        Kind::WrongVersion => 4,
+        Kind::ZeroCount => 5,
+        Kind::UnknownValue => 6,
+        Kind::Duplicate => 7,
+        Kind::TooManyInstances => 8,
+        Kind::BadExpression => 9,
+        Kind::BitTooHigh => 10,
+        Kind::BytesAfterEnd => 11,
+        Kind::NameAbsent => 12,
+        Kind::RegisterUnfit => 13,
+        Kind::ChildCycle => 14,
+        Kind::BadAttentionType => 15,
+        Kind::NoRoot => 16,
+        Kind::ReadingsUnfit => 17,
+        Kind::RegisterUnread => 18,
+        Kind::NoRoom => 19,
+    }
+}

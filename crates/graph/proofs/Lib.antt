@@ -1,0 +1,3 @@
+-- The laws of tests below n and of paths.
+pub mod BelowLaws
+pub mod PathsLaws

@@ -1,0 +1,3 @@
+-- Directed graphs on the numbers below n.
+pub mod Below
+pub mod Paths

@@ -1,0 +1,1 @@
+// Definitions and laws alone: directed graphs on the numbers below n.

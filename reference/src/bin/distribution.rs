@@ -1,0 +1,55 @@
+//! Prints how often each outcome occurs among seeded cases.
+//!
+//! Usage: distribution [CASES [SEED]]
+
+use std::env;
+use std::process::ExitCode;
+
+use reference::generate::{self, Random};
+use reference::isolate;
+
+const HIGHEST_NUMBER: usize = 19;
+
+fn main() -> ExitCode {
+    let numbers: Option<Vec<u64>> = env::args().skip(1).map(|text| text.parse().ok()).collect();
+    let (cases, seed) = match numbers.as_deref() {
+        Some([]) => (100_000, 1),
+        Some([cases]) => (*cases, 1),
+        Some([cases, seed]) => (*cases, *seed),
+        _ => {
+            eprintln!("usage: distribution [CASES [SEED]]");
+            return ExitCode::FAILURE;
+        }
+    };
+
+    let mut random = Random::new(seed);
+    let mut isolated = 0u64;
+    let mut with_records = 0u64;
+    let mut refused = [0u64; HIGHEST_NUMBER + 1];
+    for _ in 0..cases {
+        let case = generate::case(&mut random);
+        let mut list = vec![0; case.room];
+        match isolate(
+            &case.file,
+            case.attention_type,
+            &case.words,
+            &case.read,
+            &mut list,
+        ) {
+            Ok((records, _)) => {
+                isolated += 1;
+                with_records += u64::from(records > 0);
+            }
+            Err(refusal) => refused[usize::from(refusal.number)] += 1,
+        }
+    }
+
+    let after_check: u64 = refused[15..].iter().sum();
+    println!("cases {cases} seed {seed}");
+    println!("accepted {}", isolated + after_check);
+    println!("isolated {isolated} with-records {with_records}");
+    for (number, count) in refused.iter().enumerate().skip(1) {
+        println!("refused-{number} {count}");
+    }
+    ExitCode::SUCCESS
+}

@@ -1,0 +1,204 @@
+//! Seeded cases for isolation: files, valid and damaged, with attention types,
+//! readings and room.
+//!
+//! The same seed gives the same cases.
+
+mod damage;
+mod draft;
+mod random;
+
+pub use damage::damaged_file;
+pub use draft::{valid_file, Field, FieldKind, FieldMap, Shape};
+pub use random::Random;
+
+use crate::checker::Accepted;
+use crate::isolation;
+use crate::layout::MAX_FILE_BYTES;
+use crate::readings::{self, READ, UNREAD};
+
+/// All that one isolation call is lent. The list has `room` bytes.
+#[derive(Clone, Debug, PartialEq, Eq)]
+pub struct Case {
+    pub file: Vec<u8>,
+    pub attention_type: u8,
+    pub words: Vec<u64>,
+    pub read: Vec<u8>,
+    pub room: usize,
+}
+
+/// A case with a valid or a damaged file.
+pub fn case(random: &mut Random) -> Case {
+    let shape = Shape::any(random);
+    let map = valid_file(random, &shape);
+    let register_instances = map.count(FieldKind::RegisterInstance);
+    let attention_types: Vec<u8> = map
+        .fields_of(FieldKind::RootAttention)
+        .map(|field| map.bytes[field.at])
+        .collect();
+    let file = match random.below(100) {
+        0..=54 => map.bytes,
+        55 if random.one_in(8) => too_long(random, map.bytes),
+        _ => damaged_file(random, &map),
+    };
+    let (words, read) = readings(random, register_instances);
+    Case {
+        attention_type: attention_type(random, &attention_types),
+        file,
+        words,
+        read,
+        room: room(random),
+    }
+}
+
+fn too_long(random: &mut Random, mut file: Vec<u8>) -> Vec<u8> {
+    file.resize(MAX_FILE_BYTES + 1 + random.below(64), 0);
+    file
+}
+
+/// Mostly one of `with_root`.
+fn attention_type(random: &mut Random, with_root: &[u8]) -> u8 {
+    match random.below(20) {
+        0 => *random.pick(&[0, 6, 255]),
+        1 => random.between(1, 5) as u8,
+        _ => *random.pick(with_root),
+    }
+}
+
+/// Words and read bytes that mostly fit so many register instances.
+pub fn readings(random: &mut Random, instances: usize) -> (Vec<u64>, Vec<u8>) {
+    let density = random.below(5);
+    let mut words: Vec<u64> = (0..instances).map(|_| word(random, density)).collect();
+    let unread_share = *random.pick(&[0, 0, 0, 1, 2, 10, 50]);
+    let mut read: Vec<u8> = (0..instances)
+        .map(|_| {
+            if random.below(100) < unread_share {
+                UNREAD
+            } else {
+                READ
+            }
+        })
+        .collect();
+    match random.below(60) {
+        0 => words.push(0),
+        1 => read.push(READ),
+        2 => drop(words.pop()),
+        3 => drop(read.pop()),
+        4 => {
+            let at = random.below(instances);
+            read[at] = *random.pick(&[2, 3, 128, 255]);
+        }
+        5 => {
+            words.clear();
+            read.clear();
+        }
+        _ => {}
+    }
+    (words, read)
+}
+
+fn word(random: &mut Random, density: usize) -> u64 {
+    match density {
+        0 => *random.pick(&[0, 1, 1 << 63, u64::MAX]),
+        1 => 1 << random.below(64),
+        2 => random.next() & random.next() & random.next(),
+        3 => random.next() | random.next() | random.next(),
+        _ => random.next(),
+    }
+}
+
+/// The length of a list, not always whole records.
+fn room(random: &mut Random) -> usize {
+    let records = match random.below(10) {
+        0 => 0,
+        1 => random.below(4),
+        2 => random.below(64),
+        _ => 4_096,
+    };
+    records * isolation::RECORD_BYTES + if random.one_in(4) { random.below(8) } else { 0 }
+}
+
+/// A readings file for the case, now and then damaged. None if the case's own
+/// file is refused or its readings do not fit.
+pub fn readings_file(random: &mut Random, case: &Case) -> Option<Vec<u8>> {
+    let accepted = Accepted::read(&case.file).ok()?;
+    readings::Readings::fit(&accepted.tree, &case.words, &case.read).ok()?;
+    let mut bytes = readings::encode(&accepted, &case.words, &case.read);
+    match random.below(12) {
+        0 => drop(bytes.pop()),
+        1 => bytes.push(0),
+        2 => bytes.truncate(bytes.len() - readings::RECORD_BYTES),
+        3 => bytes.extend([0; readings::RECORD_BYTES]),
+        4 | 5 => {
+            let at = random.below(bytes.len());
+            bytes[at] ^= 1 << random.below(8);
+        }
+        6 => {
+            let at = random.below(bytes.len() / readings::RECORD_BYTES) * readings::RECORD_BYTES;
+            bytes[at + 4] = UNREAD;
+        }
+        _ => {}
+    }
+    Some(bytes)
+}
+
+#[cfg(test)]
+mod tests {
+    use super::*;
+    use crate::checker;
+
+    #[test]
+    fn a_seed_decides_the_cases() {
+        let mut first = Random::new(5);
+        let mut second = Random::new(5);
+        for _ in 0..50 {
+            assert_eq!(case(&mut first), case(&mut second));
+        }
+    }
+
+    #[test]
+    fn valid_files_are_accepted() {
+        let mut random = Random::new(6);
+        for _ in 0..3_000 {
+            let shape = Shape::any(&mut random);
+            let map = valid_file(&mut random, &shape);
+            let verdict = checker::check(&map.bytes);
+            let summary = verdict.unwrap_or_else(|refusal| panic!("{shape:?}: {refusal}"));
+            assert_eq!(
+                summary.register_instances,
+                map.count(FieldKind::RegisterInstance)
+            );
+            assert_eq!(summary.node_instances, map.count(FieldKind::NodeInstance));
+        }
+    }
+
+    #[test]
+    fn the_field_map_covers_the_file() {
+        let mut random = Random::new(7);
+        for _ in 0..300 {
+            let shape = Shape::any(&mut random);
+            let map = valid_file(&mut random, &shape);
+            let mut at = 0;
+            for field in &map.fields {
+                assert_eq!(field.at, at);
+                at += field.size;
+            }
+            assert_eq!(at, map.bytes.len());
+        }
+    }
+
+    /// A cut is refused at the start of the field it falls into.
+    #[test]
+    fn cuts_are_refused_at_their_field() {
+        let mut random = Random::new(8);
+        for _ in 0..300 {
+            let shape = Shape::small(&mut random);
+            let map = valid_file(&mut random, &shape);
+            for field in &map.fields {
+                for length in field.at..field.at + field.size {
+                    let refusal = checker::check(&map.bytes[..length]).unwrap_err();
+                    assert_eq!((refusal.number, refusal.place), (2, field.at));
+                }
+            }
+        }
+    }
+}

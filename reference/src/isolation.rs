@@ -1,0 +1,162 @@
+//! Isolation: from a root down to the active bits without a child.
+
+use crate::checker::Accepted;
+use crate::expression::{bit_is_set, Unread};
+use crate::layout::{is_attention_type, HIGHEST_BIT};
+use crate::readings::{self, Readings};
+use crate::refusal::{self, Refusal};
+use crate::tree::NodeInstance;
+
+/// Attention type, bit, node ID (2), instance, three zeros.
+pub const RECORD_BYTES: usize = 8;
+
+pub type Record = [u8; RECORD_BYTES];
+
+/// Writes the records to the list and returns how many they are, and the
+/// number of steps. The list keeps its bytes beyond the records, and all of
+/// them on a refusal.
+pub fn isolate(
+    file: &[u8],
+    attention_type: u8,
+    words: &[u64],
+    read: &[u8],
+    list: &mut [u8],
+) -> Result<(usize, usize), Refusal> {
+    let accepted = Accepted::read(file)?;
+    let root = accepted.root(attention_type)?;
+    let readings = Readings::fit(&accepted.tree, words, read)?;
+    accepted.isolate_from(root, attention_type, readings, list)
+}
+
+/// The same, with the readings taken from a readings file.
+pub fn isolate_with_readings_file(
+    file: &[u8],
+    attention_type: u8,
+    readings_file: &[u8],
+    list: &mut [u8],
+) -> Result<(usize, usize), Refusal> {
+    let accepted = Accepted::read(file)?;
+    let root = accepted.root(attention_type)?;
+    let (words, read) = readings::decode(&accepted, readings_file)?;
+    let readings = Readings::fit(&accepted.tree, &words, &read)?;
+    accepted.isolate_from(root, attention_type, readings, list)
+}
+
+/// What isolation knows of one node instance.
+#[derive(Clone, Copy, PartialEq, Eq)]
+enum Mark {
+    Untouched,
+    Waiting,
+    /// With the wanted rule's value, or 0 if there is no such rule.
+    Done(Result<u64, Unread>),
+}
+
+impl Accepted {
+    /// The position of the root's node instance.
+    fn root(&self, attention_type: u8) -> Result<usize, Refusal> {
+        if !is_attention_type(attention_type) {
+            return Err(Refusal::new(refusal::UNKNOWN_ATTENTION, 0));
+        }
+        let mut roots = self.tree.roots.iter();
+        roots
+            .find(|root| root.attention_type == attention_type)
+            .and_then(|root| self.index.node_instance(root.node))
+            .ok_or(Refusal::new(refusal::NO_ROOT, 0))
+    }
+
+    fn isolate_from(
+        &self,
+        root: usize,
+        attention_type: u8,
+        readings: Readings<'_>,
+        list: &mut [u8],
+    ) -> Result<(usize, usize), Refusal> {
+        let marks = self.walk(root, attention_type, readings);
+
+        let mut records = Vec::new();
+        let mut steps = 0;
+        for (instance, mark) in self.tree.node_instances.iter().zip(marks) {
+            let Mark::Done(active) = mark else { continue };
+            steps += 1;
+            let active =
+                active.map_err(|unread| Refusal::new(refusal::REGISTER_UNREAD, unread.at))?;
+            records.extend(listed(instance, attention_type, active));
+        }
+
+        if list.len() / RECORD_BYTES < records.len() {
+            return Err(Refusal::new(refusal::NO_ROOM, records.len()));
+        }
+        for (place, record) in list.chunks_exact_mut(RECORD_BYTES).zip(&records) {
+            place.copy_from_slice(record);
+        }
+        Ok((records.len(), steps))
+    }
+
+    /// The marks when none waits: an instance is done exactly if it is
+    /// reached.
+    fn walk(&self, root: usize, attention_type: u8, readings: Readings<'_>) -> Vec<Mark> {
+        let mut marks = vec![Mark::Untouched; self.tree.node_instances.len()];
+        let mut waiting = vec![root];
+        marks[root] = Mark::Waiting;
+        while let Some(position) = waiting.pop() {
+            let instance = &self.tree.node_instances[position];
+            let active = self.active_bits(instance, attention_type, readings);
+            marks[position] = Mark::Done(active);
+            for child in &instance.children {
+                if !bit_is_set(active.unwrap_or(0), child.bit) {
+                    continue;
+                }
+                let followed = self.index.node_instance(child.node);
+                if let Some(next) = followed.filter(|&next| marks[next] == Mark::Untouched) {
+                    marks[next] = Mark::Waiting;
+                    waiting.push(next);
+                }
+            }
+        }
+        marks
+    }
+
+    fn active_bits(
+        &self,
+        instance: &NodeInstance,
+        attention_type: u8,
+        readings: Readings<'_>,
+    ) -> Result<u64, Unread> {
+        let value = |name| {
+            self.index
+                .register_instance(name)
+                .and_then(|position| readings.value(position))
+        };
+        match instance.rule(attention_type) {
+            Some(rule) => rule.expression.evaluate(&value),
+            None => Ok(0),
+        }
+    }
+}
+
+/// The records of an instance's active bits without a child, from bit 0 up.
+fn listed(
+    instance: &NodeInstance,
+    attention_type: u8,
+    active: u64,
+) -> impl Iterator<Item = Record> + '_ {
+    let with_child = instance
+        .children
+        .iter()
+        .fold(0, |word, child| word | 1u64 << (HIGHEST_BIT - child.bit));
+    let [high, low] = instance.name.id.to_be_bytes();
+    (0..=HIGHEST_BIT)
+        .filter(move |&bit| bit_is_set(active & !with_child, bit))
+        .map(move |bit| {
+            [
+                attention_type,
+                bit,
+                high,
+                low,
+                instance.name.instance,
+                0,
+                0,
+                0,
+            ]
+        })
+}

@@ -1,0 +1,20 @@
+//! A plain reference for chip data files: the checker, the address query,
+//! readings and error isolation.
+
+pub mod cases;
+pub mod checker;
+pub mod cycles;
+pub mod expression;
+pub mod generate;
+pub mod hex;
+pub mod index;
+pub mod isolation;
+pub mod layout;
+pub mod readings;
+pub mod references;
+pub mod refusal;
+pub mod tree;
+
+pub use checker::{address, check, Accepted, Summary};
+pub use isolation::{isolate, isolate_with_readings_file};
+pub use refusal::Refusal;
