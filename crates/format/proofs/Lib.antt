@@ -1,2 +1,10 @@
 -- The laws of the layout, and the samples.
+pub mod ParsedLaws
+pub mod Spelling
+pub mod EveryLaws
+pub mod RowLaws
+pub mod ExpressionAccepted
+pub mod RegistersAccepted
+pub mod NodesAccepted
+pub mod FileAccepted
 mod SamplesHold

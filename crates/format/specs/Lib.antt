@@ -13,4 +13,7 @@ pub mod References
 pub mod Cycles
 pub mod Verdict
 pub mod Meaning
+pub mod Encoding
+pub mod Placing
+pub mod Rules
 pub mod Samples
