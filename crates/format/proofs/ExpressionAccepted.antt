@@ -76,16 +76,17 @@ fine-out l at before (e ∷ es) h =
       placed = (h .0 .placed, r .placed);
       fits = (h .0 .fits, r .fits);
       counted = (h .0 .counted, r .counted);
-      nested = omega (arith, h .0 .nested, r .nested)
+      nested = omega (arith, h .0 .nested, r .nested);
     }
 
 fine-in : (l at : ℕ) (before es : List Expr) → ExprsFine l at (gather es) → Row (Fine l) encodeExpr before at es
 unfolding Row gather PlacedExprs ExprsFit CountedAll depths
 fine-in l at before [] h = tt
-fine-in l at before (e ∷ es) h =
-    (record { placed = h .placed .0; fits = h .fits .0; counted = h .counted .0; nested = omega (arith, h .nested) },
-    fine-in l (at + length (encodeExpr e)) (e ∷ before) es
-    (record { placed = h .placed .1; fits = h .fits .1; counted = h .counted .1; nested = omega (arith, h .nested) }))
+fine-in l at before (e ∷ es) h = (
+  record { placed = h .placed .0; fits = h .fits .0; counted = h .counted .0; nested = omega (arith, h .nested) },
+  fine-in l (at + length (encodeExpr e)) (e ∷ before) es
+      (record { placed = h .placed .1; fits = h .fits .1; counted = h .counted .1; nested = omega (arith, h .nested) }),
+)
 
 -- The type byte of each operation.
 
@@ -132,11 +133,12 @@ module _ (s : List ℕ) (bytes : Bytes s) where
         let f = field-out s bytes at 1 (q .0) in
         let r = row-out (Fine l) encodeExpr s (λ before. exprAt s l) inner (t .0) [] (t .1) (t .3) in
         let n : operandCount (gather es) ≡ t .0 = count-gather es ∙ r .1 in
-        let g : Spell s at (t .1) (bytesOf 1 (operandCount (gather es))) = subst (λ x. Spell s at (t .1) (bytesOf 1 x)) (sym n) (f .0) in
-        (spell-join s g (subst (λ bs. Spell s (t .1) m bs) (sym (encode-gather es)) (r .0)),
-        (let h : 2 ≤ t .0 = leb-true 2 (t .0) (q .1) in omega (arith, n)),
-        omega (arith, n, f .1),
-        subst (λ p. ExprsFine l p (gather es)) (next-place _ g) (fine-out l (t .1) [] es (r .2)))
+        let g : Spell s at (t .1) (bytesOf 1 (operandCount (gather es))) = subst (λ x. Spell s at (t .1) (bytesOf 1 x)) (sym n) (f .0) in (
+          spell-join s g (subst (λ bs. Spell s (t .1) m bs) (sym (encode-gather es)) (r .0)),
+          (let h : 2 ≤ t .0 = leb-true 2 (t .0) (q .1) in omega (arith, n)),
+          omega (arith, n, f .1),
+          subst (λ p. ExprsFine l p (gather es)) (next-place _ g) (fine-out l (t .1) [] es (r .2)),
+        )
 
     operands-in : (at : ℕ) (es : Exprs) {m : ℕ} → Spell s at m (bytesOf 1 (operandCount es) ++ encodeExprs es)
         → 2 ≤ operandCount es → operandCount es < 256 → ExprsFine l (at + 1) es → operandsAt (exprAt s l) s at ≡ done (operands es) m
@@ -162,9 +164,15 @@ module _ (s : List ℕ) (bytes : Bytes s) where
         let q = requiring-out _ _ _ _ (t .2) in
         let f = field-out s bytes at 1 (q .0) in
         let g = making-out _ _ (t .3) in
-        let r = inner .sound [] (t .1) (g .1) in
-        (t .0, g .0, g .2, spell-join s (f .0) (r .0), leb-true 1 (t .0) (q .1), f .1,
-        subst (λ p. ExprFine l p (g .0)) (next-place _ (f .0)) (r .1))
+        let r = inner .sound [] (t .1) (g .1) in (
+          t .0,
+          g .0,
+          g .2,
+          spell-join s (f .0) (r .0),
+          leb-true 1 (t .0) (q .1),
+          f .1,
+          subst (λ p. ExprFine l p (g .0)) (next-place _ (f .0)) (r .1),
+        )
 
     shifted-in : (shift : ℕ → Expr → Expr) (at k : ℕ) (x : Expr) {m : ℕ} → Spell s at m (bytesOf 1 k ++ encodeExpr x)
         → 1 ≤ k → k < 256 → ExprFine l (at + 1) x → shiftedAt shift (exprAt s l) s at ≡ done (shift k x) m
@@ -199,7 +207,7 @@ module _ (s : List ℕ) (bytes : Bytes s) where
             placed = subst (λ p. PlacedExprs p es) (plus-two at) (m .fine .placed);
             fits = (m .fit, m .fine .fits);
             counted = (m .two, m .fine .counted);
-            nested = omega (arith, m .fine .nested)
+            nested = omega (arith, m .fine .nested);
           }
 
       any-fine : Many at es → ExprFine (suc l) at (any es)
@@ -216,8 +224,8 @@ module _ (s : List ℕ) (bytes : Bytes s) where
               placed = subst (λ p. PlacedExprs p es) (sym (plus-two at)) (h .placed);
               fits = h .fits .1;
               counted = h .counted .1;
-              nested = omega (arith, h .nested)
-            }
+              nested = omega (arith, h .nested);
+            };
           }
 
       any-many : ExprFine (suc l) at (any es) → Many at es
@@ -232,7 +240,7 @@ module _ (s : List ℕ) (bytes : Bytes s) where
             placed = subst (λ p. PlacedExpr p e) (plus-two at) (m .fine .placed);
             fits = (m .fit, m .fine .fits);
             counted = (m .one, m .fine .counted);
-            nested = omega (arith, m .fine .nested)
+            nested = omega (arith, m .fine .nested);
           }
 
       right-fine : Shifted at k e → ExprFine (suc l) at (right k e)
@@ -249,8 +257,8 @@ module _ (s : List ℕ) (bytes : Bytes s) where
               placed = subst (λ p. PlacedExpr p e) (sym (plus-two at)) (h .placed);
               fits = h .fits .1;
               counted = h .counted .1;
-              nested = omega (arith, h .nested)
-            }
+              nested = omega (arith, h .nested);
+            };
           }
 
       right-shifted : ExprFine (suc l) at (right k e) → Shifted at k e
@@ -271,9 +279,10 @@ module _ (s : List ℕ) (bytes : Bytes s) where
         let g = making-out _ _ (t .3) in
         let i = field-out s bytes a 3 (t .2) in
         let n = field-out s bytes (t .1) 1 (g .1) in
-        subst (Found at m) (g .2)
-        (spell-join s (start-out at f c) (spell-join s (i .0) (n .0)),
-        record { placed = refl; fits = (i .1, n .1); counted = tt; nested = omega arith })
+        subst (Found at m) (g .2) (
+          spell-join s (start-out at f c) (spell-join s (i .0) (n .0)),
+          record { placed = refl; fits = (i .1, n .1); counted = tt; nested = omega arith },
+        )
     body-out at a b isConstant {e} {m} f c h =
         let g = making-out _ _ h in
         let i = field-out s bytes a 8 (g .1) in
@@ -293,14 +302,15 @@ module _ (s : List ℕ) (bytes : Bytes s) where
         let g = making-out _ _ h in
         let r = inner .sound [] a (g .1) in
         let z = start-out at f c in
-        subst (Found at m) (g .2)
-        (spell-join s z (r .0),
-        record {
-          placed = subst (λ p. PlacedExpr p (g .0)) (next-place _ z) (r .1 .placed);
-          fits = r .1 .fits;
-          counted = r .1 .counted;
-          nested = omega (arith, r .1 .nested)
-        })
+        subst (Found at m) (g .2) (
+          spell-join s z (r .0),
+          record {
+            placed = subst (λ p. PlacedExpr p (g .0)) (next-place _ z) (r .1 .placed);
+            fits = r .1 .fits;
+            counted = r .1 .counted;
+            nested = omega (arith, r .1 .nested);
+          },
+        )
     body-out at a b isLeft {e} {m} f c h =
         let r = shifted-out left a h in
         let z = start-out at f c in
@@ -357,11 +367,11 @@ module _ (s : List ℕ) (bytes : Bytes s) where
   expr-reads zero =
       record {
         sound = λ before at e. never (then-out _ _ e .3);
-        complete = λ before at {x} a h. absurd (omega (arith, h .nested, depth-positive x))
+        complete = λ before at {x} a h. absurd (omega (arith, h .nested, depth-positive x));
       }
   expr-reads (suc l) =
       let inner = expr-reads l in
       record {
         sound = λ before at e. let t = then-out _ _ e in body-out l inner at (t .1) (t .0) (operationOf (t .0)) (t .2) (code (t .0)) (t .3);
-        complete = λ before at {x} a h. body-in l inner at x a h
+        complete = λ before at {x} a h. body-in l inner at x a h;
       }

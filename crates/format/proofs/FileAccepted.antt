@@ -46,27 +46,28 @@ module _ (s : List ℕ) (bytes : Bytes s) where
   root-reads =
       record {
         sound = λ before at {x} {m} e.
-          let t = then-out _ _ e in
-          let q = requiring-out _ _ _ _ (t .2) in
-          let p = requiring-out _ _ _ _ (q .0) in
-          let c = then-out _ _ (t .3) in
-          let g = making-out _ _ (c .3) in
-          let a = field-out s bytes at 1 (p .0) in
-          let i = field-out s bytes (t .1) 2 (c .2) in
-          let n = field-out s bytes (c .1) 1 (g .1) in
-          subst (λ k. Spell s at m (encodeRoot k) × RootFine before at k) (g .2)
-          (spell-join s (a .0) (spell-join s (i .0) (n .0)),
-          record { placed = refl; alone = record { attention = p .1; id = i .1; number = n .1 }; new = q .1 });
+            let t = then-out _ _ e in
+            let q = requiring-out _ _ _ _ (t .2) in
+            let p = requiring-out _ _ _ _ (q .0) in
+            let c = then-out _ _ (t .3) in
+            let g = making-out _ _ (c .3) in
+            let a = field-out s bytes at 1 (p .0) in
+            let i = field-out s bytes (t .1) 2 (c .2) in
+            let n = field-out s bytes (c .1) 1 (g .1) in
+            subst (λ k. Spell s at m (encodeRoot k) × RootFine before at k) (g .2) (
+              spell-join s (a .0) (spell-join s (i .0) (n .0)),
+              record { placed = refl; alone = record { attention = p .1; id = i .1; number = n .1 }; new = q .1 },
+            );
         complete = λ before at {x} {m} a h.
-          let b = spell-split s (bytesOf 1 (x .attention)) (bytesOf 2 (x .id) ++ bytesOf 1 (x .number)) a in
-          let c = spell-split s (bytesOf 2 (x .id)) (bytesOf 1 (x .number)) (b .1) in
-          let k = h .alone in
-          then-in _ _
-          (requiring-in _ _ _ _
-          (requiring-in _ _ _ _ (field-in s bytes at 1 (lit< tt) (b .0) (attention-small _ (k .attention))) (k .attention)) (h .new))
-          (then-in _ _ (field-in s bytes _ 2 (lit< tt) (c .0) (k .id))
-          (making-in _ _ (field-in s bytes _ 1 (lit< tt) (c .1) (k .number))
-          (ap (λ p. record { place = p; attention = x .attention; id = x .id; number = x .number }) (sym (h .placed)))))
+            let b = spell-split s (bytesOf 1 (x .attention)) (bytesOf 2 (x .id) ++ bytesOf 1 (x .number)) a in
+            let c = spell-split s (bytesOf 2 (x .id)) (bytesOf 1 (x .number)) (b .1) in
+            let k = h .alone in
+            then-in _ _
+            (requiring-in _ _ _ _
+            (requiring-in _ _ _ _ (field-in s bytes at 1 (lit< tt) (b .0) (attention-small _ (k .attention))) (k .attention)) (h .new))
+            (then-in _ _ (field-in s bytes _ 2 (lit< tt) (c .0) (k .id))
+            (making-in _ _ (field-in s bytes _ 1 (lit< tt) (c .1) (k .number))
+            (ap (λ p. record { place = p; attention = x .attention; id = x .id; number = x .number }) (sym (h .placed)))));
       }
 
   roots-out : (at : ℕ) {ts : List Root} {m : ℕ} → rootsAt s true at ≡ done ts m → Spell s at m (encodeRoots ts) × RootsFine at ts
@@ -74,7 +75,7 @@ module _ (s : List ℕ) (bytes : Bytes s) where
   roots-out at {ts} e =
       let t = section-out s bytes RootFine encodeRoot (rootAt s true) root-reads root 1 at e in
       let a = among-out encodeRoot PlacedRoot RootAlone (λ x. x .attention) (at + 5) ts
-          (subst (λ p. Row RootFine encodeRoot [] p ts) (let w : at + 4 + 1 ≡ at + 5 = omega arith in w) (t .3)) in
+      (subst (λ p. Row RootFine encodeRoot [] p ts) (let w : at + 4 + 1 ≡ at + 5 = omega arith in w) (t .3)) in
       (t .0, record { placed = a .0; count = t .2; some = t .1; each = a .1; unique = a .2 })
 
   roots-in : (at : ℕ) (ts : List Root) {m : ℕ} → Spell s at m (encodeRoots ts) → RootsFine at ts → rootsAt s true at ≡ done ts m
@@ -131,14 +132,15 @@ module _ (s : List ℕ) (bytes : Bytes s) where
       let wr : t .1 ≡ length (encodeStart (t .0)) = omega (arith, m .0 .ends) in
       let wn : u .1 ≡ length (encodeStart (t .0)) + length (encodeRegisters (u .0)) = omega (arith, wr, r .0 .ends) in
       let wq : v .1 ≡ length (encodeStart (t .0)) + length (encodeRegisters (u .0)) + length (encodeNodes (v .0)) = omega (arith, wn, n .0 .ends) in
-      subst (λ x. Spell s 0 end (encode x) × FileFine x) (g .2)
-      (spell-join s (m .0) (spell-join s (r .0) (spell-join s (n .0) (q .0))),
-      record {
-        model = m .1;
-        registers = subst (λ p. RegistersFine p (u .0)) wr (r .1);
-        nodes = subst (λ p. NodesFine p (v .0)) wn (n .1);
-        roots = subst (λ p. RootsFine p (g .0)) wq (q .1)
-      })
+      subst (λ x. Spell s 0 end (encode x) × FileFine x) (g .2) (
+        spell-join s (m .0) (spell-join s (r .0) (spell-join s (n .0) (q .0))),
+        record {
+          model = m .1;
+          registers = subst (λ p. RegistersFine p (u .0)) wr (r .1);
+          nodes = subst (λ p. NodesFine p (v .0)) wn (n .1);
+          roots = subst (λ p. RootsFine p (g .0)) wq (q .1);
+        },
+      )
 
   pub file-in : (c : Chip) {end : ℕ} → Spell s 0 end (encode c) → FileFine c → fileAt s true 0 ≡ done c end
   unfolding fileAt encode

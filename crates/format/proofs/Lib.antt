@@ -7,4 +7,8 @@ pub mod ExpressionAccepted
 pub mod RegistersAccepted
 pub mod NodesAccepted
 pub mod FileAccepted
+pub mod FaultsLaws
+pub mod Grouping
+pub mod Acceptance
+pub mod EncodingLaws
 mod SamplesHold

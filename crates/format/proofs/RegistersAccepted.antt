@@ -51,20 +51,20 @@ module _ (s : List ℕ) (bytes : Bytes s) where
   instance-reads total type =
       record {
         sound = λ before at {x} {m} e.
-          let t = then-out _ _ e in
-          let q = requiring-out _ _ _ _ (t .2) in
-          let r = requiring-out _ _ _ _ (q .0) in
-          let g = making-out _ _ (t .3) in
-          let n = field-out s bytes at 1 (r .0) in
-          let a = field-out s bytes (t .1) (addressSize type) (g .1) in
-          subst (λ i. Spell s at m (encodeRegisterInstance type i) × InstanceFine total type before at i) (g .2)
-          (spell-join s (n .0) (a .0), (record { placed = one-more _ (n .0); alone = record { number = n .1; address = a .1 }; new = q .1 }, r .1));
+            let t = then-out _ _ e in
+            let q = requiring-out _ _ _ _ (t .2) in
+            let r = requiring-out _ _ _ _ (q .0) in
+            let g = making-out _ _ (t .3) in
+            let n = field-out s bytes at 1 (r .0) in
+            let a = field-out s bytes (t .1) (addressSize type) (g .1) in
+            subst (λ i. Spell s at m (encodeRegisterInstance type i) × InstanceFine total type before at i) (g .2)
+            (spell-join s (n .0) (a .0), (record { placed = one-more _ (n .0); alone = record { number = n .1; address = a .1 }; new = q .1 }, r .1));
         complete = λ before at {x} {m} a h.
-          let b = spell-split s (bytesOf 1 (x .number)) (bytesOf (addressSize type) (x .address)) a in
-          then-in _ _
-          (requiring-in _ _ _ _ (requiring-in _ _ _ _ (field-in s bytes at 1 (lit< tt) (b .0) (h .0 .alone .number)) (h .1)) (h .0 .new))
-          (making-in _ _ (field-in s bytes _ (addressSize type) (size-positive type) (b .1) (h .0 .alone .address))
-          (ap (λ p. record { number = x .number; place = p; address = x .address }) (one-more _ (b .0) ∙ sym (h .0 .placed))))
+            let b = spell-split s (bytesOf 1 (x .number)) (bytesOf (addressSize type) (x .address)) a in
+            then-in _ _
+            (requiring-in _ _ _ _ (requiring-in _ _ _ _ (field-in s bytes at 1 (lit< tt) (b .0) (h .0 .alone .number)) (h .1)) (h .0 .new))
+            (making-in _ _ (field-in s bytes _ (addressSize type) (size-positive type) (b .1) (h .0 .alone .address))
+            (ap (λ p. record { number = x .number; place = p; address = x .address }) (one-more _ (b .0) ∙ sym (h .0 .placed))));
       }
 
 -- What reading needs of the instances of a register.
@@ -159,48 +159,51 @@ module _ (s : List ℕ) (bytes : Bytes s) where
   register-reads =
       record {
         sound = λ before at {x} {m} e.
-          let t = then-out _ _ e in
-          let g = making-out _ _ (t .3) in
-          let h = t .0 in
-          let is = g .0 in
-          let a = head-out _ at (t .2) in
-          let r = row-out _ _ s _ (instance-reads s bytes (registerTotal before) (h .type)) (h .count) [] (t .1) (g .1) in
-          let z : 0 < length is = omega (arith, r .1, a .6) in
-          let w : t .1 ≡ at + 6 = omega (arith, a .0 .ends, head-length (h .id) (h .type) (h .flags) (h .count)) in
-          let f = instances-out (registerTotal before) (h .type) (t .1) is z (r .2) in
-          subst (λ x. Spell s at m (encodeRegister x) × RegisterFine before at x) (g .2)
-          (spell-join s (subst (λ k. Spell s at (t .1) (headBytes (h .id) (h .type) (h .flags) k)) (sym (r .1)) (a .0)) (r .0),
-          (record {
-            placed = subst (λ p. PlacedRow PlacedRegisterInstance (encodeRegisterInstance (h .type)) p is) w (f .placed);
-            alone = record {
-              id = a .1;
-              type = a .2;
-              flags = a .3;
-              known = a .4;
-              count = omega (arith, r .1, a .5);
-              some = z;
-              each = f .each;
-              unique = f .unique
-            };
-            new = a .7
-          },
-          f .room));
+            let t = then-out _ _ e in
+            let g = making-out _ _ (t .3) in
+            let h = t .0 in
+            let is = g .0 in
+            let a = head-out _ at (t .2) in
+            let r = row-out _ _ s _ (instance-reads s bytes (registerTotal before) (h .type)) (h .count) [] (t .1) (g .1) in
+            let z : 0 < length is = omega (arith, r .1, a .6) in
+            let w : t .1 ≡ at + 6 = omega (arith, a .0 .ends, head-length (h .id) (h .type) (h .flags) (h .count)) in
+            let f = instances-out (registerTotal before) (h .type) (t .1) is z (r .2) in
+            subst (λ x. Spell s at m (encodeRegister x) × RegisterFine before at x) (g .2) (
+              spell-join s (subst (λ k. Spell s at (t .1) (headBytes (h .id) (h .type) (h .flags) k)) (sym (r .1)) (a .0)) (r .0),
+              (
+                record {
+                  placed = subst (λ p. PlacedRow PlacedRegisterInstance (encodeRegisterInstance (h .type)) p is) w (f .placed);
+                  alone = record {
+                    id = a .1;
+                    type = a .2;
+                    flags = a .3;
+                    known = a .4;
+                    count = omega (arith, r .1, a .5);
+                    some = z;
+                    each = f .each;
+                    unique = f .unique;
+                  };
+                  new = a .7;
+                },
+                f .room,
+              ),
+            );
         complete = λ before at {x} {m} a h.
-          let k = h .0 .alone in
-          let b = spell-split s (headBytes (x .id) (x .type) (x .flags) (length (x .instances))) _ a in
-          let w : at + 6 ≡ at + length (headBytes (x .id) (x .type) (x .flags) (length (x .instances))) =
-              omega (arith, head-length (x .id) (x .type) (x .flags) (length (x .instances))) in
-          then-in _ _ (head-in _ at _ _ _ _ (b .0) (k .id) (k .type) (k .flags) (k .known) (k .count) (k .some) (h .0 .new))
-          (making-in _ _
-          (row-in _ _ s _ (instance-reads s bytes (registerTotal before) (x .type)) [] _ (x .instances) (b .1)
-          (instances-in (registerTotal before) (x .type) _ (x .instances)
-          (record {
-            placed = subst (λ p. PlacedRow PlacedRegisterInstance (encodeRegisterInstance (x .type)) p (x .instances)) w (h .0 .placed);
-            each = k .each;
-            unique = k .unique;
-            room = h .1
-          })))
-          refl)
+            let k = h .0 .alone in
+            let b = spell-split s (headBytes (x .id) (x .type) (x .flags) (length (x .instances))) _ a in
+            let w : at + 6 ≡ at + length (headBytes (x .id) (x .type) (x .flags) (length (x .instances))) =
+            omega (arith, head-length (x .id) (x .type) (x .flags) (length (x .instances))) in
+            then-in _ _ (head-in _ at _ _ _ _ (b .0) (k .id) (k .type) (k .flags) (k .known) (k .count) (k .some) (h .0 .new))
+            (making-in _ _
+            (row-in _ _ s _ (instance-reads s bytes (registerTotal before) (x .type)) [] _ (x .instances) (b .1)
+            (instances-in (registerTotal before) (x .type) _ (x .instances)
+            (record {
+              placed = subst (λ p. PlacedRow PlacedRegisterInstance (encodeRegisterInstance (x .type)) p (x .instances)) w (h .0 .placed);
+              each = k .each;
+              unique = k .unique;
+              room = h .1;
+            })))
+            refl);
       }
 
 -- What reading needs of the registers of a file.
@@ -228,8 +231,8 @@ module _ (s : List ℕ) (bytes : Bytes s) (at : ℕ) where
       let r : Row RegisterFine encodeRegister [] (at + 7) rs = subst (λ p. Row RegisterFine encodeRegister [] p rs) (omega arith) (t .3) in
       let a = among-out encodeRegister PlacedRegister RegisterAlone (λ x. x .id) (at + 7) rs (row-map encodeRegister _ _ (λ b a x h. h .0) [] (at + 7) rs r) in
       let l =
-          total-out encodeRegister (λ x. length (x .instances)) registerTotal total-none total-more registerLimit [] (at + 7) rs (t .1)
-          (row-map encodeRegister RegisterFine _ (λ b a x h. h .1) [] (at + 7) rs r) in
+      total-out encodeRegister (λ x. length (x .instances)) registerTotal total-none total-more registerLimit [] (at + 7) rs (t .1)
+      (row-map encodeRegister RegisterFine _ (λ b a x h. h .1) [] (at + 7) rs r) in
       (t .0, record { placed = a .0; count = t .2; some = t .1; each = a .1; unique = a .2; room = omega (arith, total-none, l) })
 
   pub registers-in : (rs : List Register) {m : ℕ} → Spell s at m (encodeRegisters rs) → RegistersFine at rs → registersAt s true at ≡ done rs m

@@ -76,10 +76,11 @@ module _ {A : Type 0} (enc : A → List ℕ) where
       pub new : fresh true (map key before) (key x) ≡ true
 
     pub among-out : (at : ℕ) (xs : List A) → Row Among enc [] at xs → PlacedRow Place enc at xs × Every Alone xs × Distinct (map key xs)
-    among-out at xs r =
-        (placed-out Place [] at xs (row-map Among _ (λ b a x h. h .placed) [] at xs r),
-        each-out Alone [] at xs (row-map Among _ (λ b a x h. h .alone) [] at xs r),
-        unique-out key at xs (row-map Among _ (λ b a x h. h .new) [] at xs r))
+    among-out at xs r = (
+      placed-out Place [] at xs (row-map Among _ (λ b a x h. h .placed) [] at xs r),
+      each-out Alone [] at xs (row-map Among _ (λ b a x h. h .alone) [] at xs r),
+      unique-out key at xs (row-map Among _ (λ b a x h. h .new) [] at xs r),
+    )
 
     pub among-in : (at : ℕ) (xs : List A) → PlacedRow Place enc at xs → Every Alone xs → Distinct (map key xs) → Row Among enc [] at xs
     among-in at xs p e u =

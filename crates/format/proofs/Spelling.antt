@@ -34,7 +34,7 @@ module _ (s : List ℕ) where
       let h : take (length ys) (drop (at + length xs) s) ≡ ys = subst (λ p. take (length ys) (drop p s) ≡ ys) (a .ends) (b .here) in
       record {
         here = rw (length-append, take-add, drop-drop, a .here, h);
-        ends = omega (arith, length-append xs ys, a .ends, b .ends)
+        ends = omega (arith, length-append xs ys, a .ends, b .ends);
       }
 
   pub spell-split : {at m : ℕ} (xs ys : List ℕ) → Spell s at m (xs ++ ys)
@@ -44,7 +44,7 @@ module _ (s : List ℕ) where
       let back = take (length ys) (drop (at + length xs) s) in
       let e : front ++ back ≡ xs ++ ys = sym (rw (length-append, take-add, drop-drop)) ∙ a .here in
       let l : length front ≡ length xs =
-          omega (arith, simp length-append at (ap length e), length-take (length xs) (drop at s), length-take (length ys) (drop (at + length xs) s)) in
+      omega (arith, simp length-append at (ap length e), length-take (length xs) (drop at s), length-take (length ys) (drop (at + length xs) s)) in
       let x : front ≡ xs = sym (take-at front back (length xs) l) ∙ ap (take (length xs)) e ∙ take-at xs ys (length xs) refl in
       let y : back ≡ ys = sym (drop-at front back (length xs) l) ∙ ap (drop (length xs)) e ∙ drop-at xs ys (length xs) refl in
       (record { here = x; ends = refl }, record { here = y; ends = omega (arith, length-append xs ys, a .ends) })
@@ -163,11 +163,12 @@ module _ {A : Type 0} (s : List ℕ) (bytes : Bytes s) (ok : List A → ℕ → 
       let q = requiring-out _ _ _ _ (c .2) in
       let f = field-out s bytes (t .1) n (q .0) in
       let r = row-out ok enc s p reads (c .0) [] (c .1) (c .3) in
-      let w : c .1 ≡ at + length word + n = omega (arith, k .ends, f .0 .ends, length-bytes n (c .0)) in
-      (spell-join s k (spell-join s (subst (λ x. Spell s (t .1) (c .1) (bytesOf n x)) (sym (r .1)) (f .0)) (r .0)),
-      omega (arith, r .1, ltb-true 0 (c .0) (q .1)),
-      subst (λ x. x < 256 ^ n) (sym (r .1)) (f .1),
-      subst (λ q. Row ok enc [] q xs) w (r .2))
+      let w : c .1 ≡ at + length word + n = omega (arith, k .ends, f .0 .ends, length-bytes n (c .0)) in (
+        spell-join s k (spell-join s (subst (λ x. Spell s (t .1) (c .1) (bytesOf n x)) (sym (r .1)) (f .0)) (r .0)),
+        omega (arith, r .1, ltb-true 0 (c .0) (q .1)),
+        subst (λ x. x < 256 ^ n) (sym (r .1)) (f .1),
+        subst (λ q. Row ok enc [] q xs) w (r .2),
+      )
 
   pub section-in : 0 < length word → 0 < n → (at : ℕ) (xs : List A) {m : ℕ} → Spell s at m (word ++ (bytesOf n (length xs) ++ gathered enc xs))
       → 0 < length xs → length xs < 256 ^ n → Row ok enc [] (at + length word + n) xs → sectionAt at ≡ done xs m

@@ -17,7 +17,7 @@ unfoldable pub childEdge : Chip → ℕ → ℕ → Bool
 childEdge c i j = some (λ a. some (leads a) (at j (nodeEntries c))) (at i (nodeEntries c))
 
 -- A node instance lies on a cycle: "some chain of child entries leads from it back to it". `onCycle` computes this (`CyclesLaws.cycle-law`).
-pub OnCycle : Chip → ℕ → Type 0
+unfoldable pub OnCycle : Chip → ℕ → Type 0
 OnCycle c i = Path (childEdge c) i i
 
 unfoldable pub cyclesFrom : Chip → ℕ → List NodeEntry → List Fault

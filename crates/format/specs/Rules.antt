@@ -139,7 +139,7 @@ module _ (c : Chip) where
     pub roots : Every (λ t. some (λ e. nodeNamed (t .id) (t .number) e && hasRule (t .attention) (e .instance)) (nodeEntries c) ≡ true) (c .roots)
 
   -- 13: a register that a rule names has the node's type and is readable.
-  pub RegistersFit : Type 0
+  unfoldable pub RegistersFit : Type 0
   RegistersFit =
       Every
       (λ e. Every

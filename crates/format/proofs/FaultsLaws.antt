@@ -1,0 +1,189 @@
+-- There is no fault exactly when what is named is there, what rules name fits, and no child entries make a cycle.
+use Prim.Native.Nat.{ℕ, zero, suc, _+_, _-_, _≤_, _<_}
+use mathlib.Core.Bool.{Bool, true, false, not, cond, _&&_}
+use mathlib.Core.List.{List, [], _∷_, _++_}
+use mathlib.Core.Logic.{_⊎_, inl, inr, ⊎-elim, _↔_}
+use mathlib.Core.Path.{_≡_, refl, sym, _∙_, ap, subst}
+use native.Mathlib.Omega.{arith}
+use native.Mathlib.Nat.{zero-add}
+use lib.ListN.{length, take, drop, length-take, length-drop, drop-of-length-le}
+use lib.Dec.{ltb}
+use borrow.Author.Tests.{ltb-true, ltb-false, not-true}
+use Rattle.numbers.proofs.Bools.{either, clash, same?}
+use Rattle.graph.specs.Paths.{Path, one, more, Inside, onCycle}
+use Rattle.graph.proofs.PathsLaws.{cycle-law}
+use Rattle.format.specs.Tree.{Capture, Rule, Child, Root, Chip}
+use Rattle.format.specs.Lookup.{some, at, gathered, RegisterEntry, registerEntries, registerNamed, NodeEntry, nodeEntries, nodeNamed}
+use Rattle.format.specs.References.{Named, namedBy, Fault, unless, fits, hasRegister, hasNode, captureFaults, namedFaults, ruleFaults, childFaults, instanceFaults, hasRule, rootFaults, referenceFaults}
+use Rattle.format.specs.Cycles.{leads, childEdge, OnCycle, cyclesFrom, cycleFaults}
+use Rattle.format.specs.Rules.{Every, allCaptures, allRules, allChildren, NamesPresent, RegistersFit}
+use Rattle.format.proofs.EveryLaws.{every-map, every-both, every-gathered-out, every-gathered-in}
+
+-- Lists of faults that are empty
+
+pub append-none : {A : Type 0} (xs ys : List A) → xs ++ ys ≡ [] → (xs ≡ []) × (ys ≡ [])
+append-none [] ys e = (refl, e)
+append-none (x ∷ xs) ys e = let z : _≡_ {A = ℕ} 0 1 = cc in absurd (omega arith)
+
+pub none-append : {A : Type 0} {xs ys : List A} → xs ≡ [] → ys ≡ [] → xs ++ ys ≡ []
+none-append p q = rw (p, q)
+
+module _ {A B : Type 0} (f : A → List B) where
+  gathered-none : (xs : List A) → gathered f xs ≡ [] → Every (λ x. f x ≡ []) xs
+  unfolding gathered Every
+  gathered-none [] e = tt
+  gathered-none (x ∷ xs) e = let r = append-none (f x) (gathered f xs) e in (r .0, gathered-none xs (r .1))
+
+  none-gathered : (xs : List A) → Every (λ x. f x ≡ []) xs → gathered f xs ≡ []
+  unfolding gathered Every
+  none-gathered [] h = refl
+  none-gathered (x ∷ xs) h = none-append (h .0) (none-gathered xs (h .1))
+
+unless-none : (ok : Bool) (n p : ℕ) → unless ok n p ≡ [] → ok ≡ true
+unfolding unless
+unless-none true n p e = refl
+unless-none false n p e = let z : _≡_ {A = ℕ} 0 1 = cc in absurd (omega arith)
+
+none-unless : (ok : Bool) (n p : ℕ) → ok ≡ true → unless ok n p ≡ []
+unfolding unless
+none-unless ok n p e = rw e
+
+-- References
+
+module _ (c : Chip) where
+  -- What is asked of a register that a rule of a node of this type names.
+  abbrev Present : Named → Type 0
+  Present n = hasRegister c (n .id) (n .number) ≡ true
+
+  abbrev Fits : ℕ → Named → Type 0
+  Fits type n = some (λ x. registerNamed (n .id) (n .number) x && fits type x) (registerEntries c) ≡ true
+
+  named-out : (type : ℕ) (n : Named) → namedFaults c type n ≡ [] → Present n × Fits type n
+  unfolding namedFaults
+  named-out type n e = let r = append-none _ _ e in (unless-none _ _ _ (r .0), unless-none _ _ _ (r .1))
+
+  named-in : (type : ℕ) (n : Named) → Present n × Fits type n → namedFaults c type n ≡ []
+  unfolding namedFaults
+  named-in type n h = none-append (none-unless _ _ _ (h .0)) (none-unless _ _ _ (h .1))
+
+  -- What is asked of a node instance.
+  record EntryGood (e : NodeEntry) : Type 0 where
+    pub captures : Every (λ k. hasRegister c (k .id) (k .number) ≡ true) (e .instance .captures)
+    pub present : Every (λ r. Every Present (namedBy (r .expression))) (e .instance .rules)
+    pub fit : Every (λ r. Every (Fits (e .type)) (namedBy (r .expression))) (e .instance .rules)
+    pub children : Every (λ k. hasNode c (k .id) (k .number) ≡ true) (e .instance .children)
+
+  entry-out : (e : NodeEntry) → instanceFaults c e ≡ [] → EntryGood e
+  unfolding instanceFaults captureFaults ruleFaults childFaults
+  entry-out e h =
+      let a = append-none _ _ h in
+      let b = append-none _ _ (a .1) in
+      let both : Every (λ r. Every (λ n. Present n × Fits (e .type) n) (namedBy (r .expression))) (e .instance .rules) =
+      every-map _ _ (λ r k. every-map _ _ (λ n. named-out (e .type) n) (namedBy (r .expression)) (gathered-none _ _ k)) (e .instance .rules)
+      (gathered-none _ _ (b .0)) in
+      record {
+        captures = every-map _ _ (λ k. unless-none _ _ _) _ (gathered-none _ _ (a .0));
+        present = every-map _ _ (λ r k. every-map _ _ (λ n x. x .0) _ k) _ both;
+        fit = every-map _ _ (λ r k. every-map _ _ (λ n x. x .1) _ k) _ both;
+        children = every-map _ _ (λ k. unless-none _ _ _) _ (gathered-none _ _ (b .1));
+      }
+
+  entry-in : (e : NodeEntry) → EntryGood e → instanceFaults c e ≡ []
+  unfolding instanceFaults captureFaults ruleFaults childFaults
+  entry-in e h =
+      none-append (none-gathered _ _ (every-map _ _ (λ k. none-unless _ _ _) _ (h .captures)))
+      (none-append
+      (none-gathered _ _
+      (every-map _ _ (λ r k. none-gathered _ _ (every-map _ _ (λ n. named-in (e .type) n) _ (every-both _ _ _ (k .0) (k .1)))) _
+      (every-both _ _ _ (h .present) (h .fit))))
+      (none-gathered _ _ (every-map _ _ (λ k. none-unless _ _ _) _ (h .children))))
+
+  pub references-out : referenceFaults c ≡ [] → NamesPresent c × RegistersFit c
+  unfolding referenceFaults rootFaults allCaptures allRules allChildren RegistersFit
+  references-out h =
+      let a = append-none _ _ h in
+      let es : Every EntryGood (nodeEntries c) = every-map _ _ entry-out (nodeEntries c) (gathered-none _ _ (a .0)) in (
+        record {
+          captures = every-gathered-in _ _ _ (every-map _ _ (λ e k. k .captures) _ es);
+          rules = every-gathered-in _ _ _ (every-map _ _ (λ e k. k .present) _ es);
+          children = every-gathered-in _ _ _ (every-map _ _ (λ e k. k .children) _ es);
+          roots = every-map _ _ (λ t. unless-none _ _ _) _ (gathered-none _ _ (a .1));
+        },
+        every-map _ _ (λ e k. k .fit) _ es,
+      )
+
+  pub references-in : NamesPresent c → RegistersFit c → referenceFaults c ≡ []
+  unfolding referenceFaults rootFaults allCaptures allRules allChildren RegistersFit
+  references-in p f =
+      none-append
+      (none-gathered _ _
+      (every-map _ _ (λ e k. entry-in e (record { captures = k .0 .0; present = k .0 .1; fit = k .1 .0; children = k .1 .1 })) (nodeEntries c)
+      (every-both _ _ _
+      (every-both _ _ _ (every-gathered-out _ _ _ (p .captures)) (every-gathered-out _ _ _ (p .rules)))
+      (every-both _ _ _ f (every-gathered-out _ _ _ (p .children))))))
+      (none-gathered _ _ (every-map _ _ (λ t. none-unless _ _ _) _ (p .roots)))
+
+-- Cycles
+
+some-never : {A : Type 0} (f : A → Bool) → ((x : A) → f x ≡ false) → (xs : List A) → some f xs ≡ false
+unfolding some
+some-never f h [] = refl
+some-never f h (x ∷ xs) = rw (h x) (some-never f h xs)
+
+some-none : {A : Type 0} (f : A → Bool) {xs : List A} → xs ≡ [] → some f xs ≡ false
+unfolding some
+some-none f e = rw e
+
+at-none : {A : Type 0} (i : ℕ) (xs : List A) → length xs ≤ i → at i xs ≡ []
+unfolding at
+at-none i xs h = rw (drop-of-length-le xs h)
+
+-- Both ends of an edge are node instances of the file.
+pub edges-inside : (c : Chip) → Inside (length (nodeEntries c)) (childEdge c)
+unfolding childEdge
+edges-inside c i j e =
+    let n = length (nodeEntries c) in (
+      ⊎-elim (λ h. h) (λ h. clash e (some-none _ (at-none i (nodeEntries c) h))) (below? i n),
+      ⊎-elim (λ h. h) (λ h. clash e (some-never _ (λ a. some-none (leads a) (at-none j (nodeEntries c) h)) _)) (below? j n),
+    )
+  where
+    below? : (i n : ℕ) → (i < n) ⊎ (n ≤ i)
+    below? i n = ⊎-elim (λ h. inl (ltb-true i n h)) (λ h. inr (ltb-false i n h)) (either (ltb i n))
+
+module _ (c : Chip) where
+  abbrev cyclic : ℕ → Bool
+  cyclic i = onCycle (length (nodeEntries c)) (childEdge c) i
+
+  -- What is computed of a cycle is that a path of child entries leads back.
+  pub cycle-words : (i : ℕ) → (cyclic i ≡ true) ↔ OnCycle c i
+  unfolding OnCycle
+  cycle-words i = cycle-law (length (nodeEntries c)) (childEdge c) (edges-inside c) i
+
+  from-out : (i : ℕ) (es : List NodeEntry) → cyclesFrom c i es ≡ [] → (k : ℕ) → k < length es → cyclic (i + k) ≡ false
+  unfolding cyclesFrom
+  from-out i [] h k l = absurd (omega arith)
+  from-out i (e ∷ es) h zero l =
+      let w : i + 0 ≡ i = omega arith in
+      rw w (not-true (cyclic i) (unless-none _ _ _ (append-none (unless (not (cyclic i)) 14 (e .instance .place)) (cyclesFrom c (suc i) es) h .0)))
+  from-out i (e ∷ es) h (suc k) l =
+      let w : i + suc k ≡ suc i + k = omega arith in
+      rw w (from-out (suc i) es (append-none (unless (not (cyclic i)) 14 (e .instance .place)) (cyclesFrom c (suc i) es) h .1) k (omega arith))
+
+  from-in : ((i : ℕ) → cyclic i ≡ false) → (i : ℕ) (es : List NodeEntry) → cyclesFrom c i es ≡ []
+  unfolding cyclesFrom
+  from-in h i [] = refl
+  from-in h i (e ∷ es) = none-append (none-unless _ _ _ (rw (h i))) (from-in h (suc i) es)
+
+  start-inside : {i j : ℕ} → Path (childEdge c) i j → i < length (nodeEntries c)
+  start-inside (one e) = edges-inside c _ _ e .0
+  start-inside (more e p) = edges-inside c _ _ e .0
+
+  pub cycles-out : cycleFaults c ≡ [] → (i : ℕ) → OnCycle c i → ⊥
+  unfolding cycleFaults OnCycle
+  cycles-out h i p =
+      let w : 0 + i ≡ i = omega arith in
+      clash (cycle-words i .1 p) (subst (λ x. cyclic x ≡ false) w (from-out 0 (nodeEntries c) h i (start-inside p)))
+
+  pub cycles-in : ((i : ℕ) → OnCycle c i → ⊥) → cycleFaults c ≡ []
+  unfolding cycleFaults
+  cycles-in h = from-in (λ i. ⊎-elim (λ e. absurd (h i (cycle-words i .0 e))) (λ e. e) (either (cyclic i))) 0 (nodeEntries c)
