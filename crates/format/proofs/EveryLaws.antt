@@ -69,11 +69,11 @@ fresh-in : (before : List ℕ) (x : ℕ) → member x before ≡ false → fresh
 unfolding fresh
 fresh-in before x e = rw e
 
-or-false-left : (s t : Bool) → s || t ≡ false → s ≡ false
+pub or-false-left : (s t : Bool) → s || t ≡ false → s ≡ false
 or-false-left true t e = clash refl e
 or-false-left false t e = refl
 
-or-false-right : (s t : Bool) → s || t ≡ false → t ≡ false
+pub or-false-right : (s t : Bool) → s || t ≡ false → t ≡ false
 or-false-right true t e = clash refl e
 or-false-right false t e = e
 

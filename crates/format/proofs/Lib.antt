@@ -11,4 +11,6 @@ pub mod FaultsLaws
 pub mod Grouping
 pub mod Acceptance
 pub mod EncodingLaws
+pub mod PositionsLaws
+pub mod PlacesLaws
 mod SamplesHold
