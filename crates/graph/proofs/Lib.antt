@@ -1,3 +1,4 @@
 -- The laws of tests below n and of paths.
 pub mod BelowLaws
 pub mod PathsLaws
+pub mod ChainsLaws

@@ -1,3 +1,4 @@
 -- Directed graphs on the numbers below n.
 pub mod Below
 pub mod Paths
+pub mod Chains
