@@ -1,0 +1,2 @@
+-- The laws of isolation, and the samples.
+mod SamplesHold

@@ -1,0 +1,78 @@
+-- The whole answer of isolation: number and place, or records and steps; and the list's bytes after the call.
+use Prim.Native.Nat.{ℕ, _*_, _/_}
+use mathlib.Core.Bool.{Bool, cond}
+use mathlib.Core.List.{List, [], _∷_, _++_}
+use lib.Dec.{leb}
+use lib.ListN.{length, drop}
+use Rattle.graph.specs.Chains.{Graph, below, reachedFrom, reachedCount}
+use Rattle.format.specs.Fields.{knownAttention}
+use Rattle.format.specs.Lookup.{at, gathered, NodeEntry, nodeEntries, nodePosition}
+use Rattle.format.specs.Parsed.{Parsed, done, refused}
+use Rattle.format.specs.References.{Fault}
+use Rattle.format.specs.Refusals.{numberOf}
+use Rattle.format.specs.Tree.{Root, Chip}
+use Rattle.format.specs.Verdict.{verdict}
+use Rattle.isolation.specs.declared.Isolated
+use Rattle.isolation.specs.declared.Isolated.{Isolated}
+use Rattle.isolation.specs.Readings.{readingsFit}
+use Rattle.isolation.specs.ChipGraph.{ruleFor, rootFor, ruleUnread, chipGraph}
+use Rattle.isolation.specs.Records.{recordSize, listing, recordsOf}
+
+-- The answer in the paper's numbers: number 0 is success; "Each refusal returns its number and place, zero records and zero steps, and the list keeps its bytes."
+pub record Outcome : Type 0 where
+  pub number : ℕ
+  pub place : ℕ
+  pub records : ℕ
+  pub steps : ℕ
+  pub list : List ℕ
+
+abbrev pub refusedOutcome : ℕ → ℕ → List ℕ → Outcome
+refusedOutcome n p list = record { number = n; place = p; records = 0; steps = 0; list = list }
+
+abbrev pub doneOutcome : ℕ → ℕ → List ℕ → Outcome
+doneOutcome r s list = record { number = 0; place = 0; records = r; steps = s; list = list }
+
+-- The paper's values of the code's answer, with what the list holds after the call.
+abbrev pub outcomeOf : Isolated → List ℕ → Outcome
+outcomeOf (Isolated.Done i) list = doneOutcome (i .records) (i .steps) list
+outcomeOf (Isolated.Refused r) list = refusedOutcome (numberOf (r .kind)) (r .place) list
+
+-- 18: "a reached instance's wanted rule names an unread register": all of these, instances in file order.
+unfoldable pub entryUnread : Chip → ℕ → List ℕ → NodeEntry → List Fault
+entryUnread c attention read e = gathered (ruleUnread c read) (ruleFor attention (e .instance))
+
+unfoldable pub reachedUnread : Chip → ℕ → List ℕ → Graph → ℕ → List Fault
+reachedUnread c attention read g root =
+    gathered (λ i. cond (reachedFrom g root i) (gathered (entryUnread c attention read) (at i (nodeEntries c))) []) (below (g .size))
+
+-- "Success writes the records and no further byte"; 19 where they are more than the list's whole places.
+unfoldable pub written : Chip → ℕ → Graph → ℕ → List ℕ → Outcome
+written c attention g root list =
+    cond (leb (length (listing g root)) (length list / recordSize))
+    (doneOutcome (length (listing g root)) (reachedCount g root)
+    (recordsOf c attention (listing g root) ++ drop (length (listing g root) * recordSize) list))
+    (refusedOutcome 19 (length (listing g root)) list)
+
+-- The first unread register decides.
+unfoldable pub allRead : List Fault → List ℕ → Outcome → Outcome
+allRead [] list o = o
+allRead (f ∷ fs) list o = refusedOutcome (f .number) (f .place) list
+
+unfoldable pub fromRoot : Chip → ℕ → List ℕ → List ℕ → List ℕ → List Root → Outcome
+fromRoot c attention words read list [] = refusedOutcome 16 0 list
+fromRoot c attention words read list (t ∷ ts) =
+    cond (readingsFit c words read)
+    (allRead
+    (reachedUnread c attention read (chipGraph c attention words read) (nodePosition c (t .id) (t .number)))
+    list
+    (written c attention (chipGraph c attention words read) (nodePosition c (t .id) (t .number)) list))
+    (refusedOutcome 17 0 list)
+
+unfoldable pub isolateIn : ℕ → List ℕ → List ℕ → List ℕ → Parsed Chip → Outcome
+isolateIn attention words read list (refused n p) = refusedOutcome n p list
+isolateIn attention words read list (done c end) =
+    cond (knownAttention attention) (fromRoot c attention words read list (rootFor attention c)) (refusedOutcome 15 0 list)
+
+-- "Order: .. then 14; then 15 to 19."
+unfoldable pub isolate : List ℕ → ℕ → List ℕ → List ℕ → List ℕ → Outcome
+isolate file attention words read list = isolateIn attention words read list (verdict file)

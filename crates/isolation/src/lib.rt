@@ -1,0 +1,14 @@
+// Isolation: which error bits are active, from a chip data file and register readings.
+use format::Refusal;
+
+// How many records were written, and how many node instances were reached.
+pub struct Isolation {
+    pub records: usize,
+    pub steps: usize,
+}
+
+// The answer of isolation.
+pub enum Isolated {
+    Done(Isolation),
+    Refused(Refusal),
+}
