@@ -65,7 +65,7 @@ module _ (g : Graph) where
     pub linked-inside : Inside (g .size) (linked g)
     linked-inside i j e = let r = linked-out i j e in (sound .instances i (r .0) (r .2), sound .children i (r .0) j (r .3))
 
-    reached-in : (j : ℕ) → (reachedFrom g root j ≡ true) ↔ Reached start (linked g) j
+    pub reached-in : (j : ℕ) → (reachedFrom g root j ≡ true) ↔ Reached start (linked g) j
     unfolding reachedFrom
     reached-in j = reached-law (g .size) start (linked g) linked-inside j
 

@@ -1,0 +1,6 @@
+-- The laws of the walk.
+pub mod First
+pub mod Step
+pub mod Tables
+pub mod WalkLaws
+pub mod RunLaws

@@ -1,0 +1,4 @@
+-- The walk over a graph that two tables give.
+pub mod TableGraph
+pub mod Marks
+pub mod Fold

@@ -1,0 +1,46 @@
+-- The marks of the walk (document 01): 0 untouched, 1 waiting, 2 done.
+use Prim.Native.Nat.{ℕ, zero, suc}
+use mathlib.Core.Bool.{Bool, cond, _&&_}
+use mathlib.Core.List.{List, [], _∷_}
+use lib.Dec.{ltb, eqb}
+use lib.ListN.{length, getD}
+use Rattle.graph.specs.Chains.{Graph, linked, reachedFrom, reachedCount}
+use Rattle.walk.specs.declared.Walk.{Walk}
+use Rattle.walk.specs.declared.Walked.{Walked}
+
+-- f 0, .., f (n - 1).
+unfoldable pub tabulate : ℕ → (ℕ → ℕ) → List ℕ
+tabulate zero f = []
+tabulate (suc n) f = f zero ∷ tabulate n (λ i. f (suc i))
+
+-- "The first waiting instance in file order"; the number of marks where none waits.
+abbrev pub firstWaiting : List ℕ → ℕ
+firstWaiting [] = zero
+firstWaiting (x ∷ m) = cond (eqb x 1) zero (suc (firstWaiting m))
+
+-- One of the graph's node instances waits.
+unfoldable pub waits : Graph → List ℕ → Bool
+waits g m = ltb (firstWaiting m) (g .size)
+
+-- The mark of j after a step at k: "makes it done, and makes its untouched followed children waiting; no other mark changes".
+unfoldable pub markAfter : Graph → List ℕ → ℕ → ℕ → ℕ
+markAfter g m k j = cond (eqb j k) 2 (cond (linked g k j && eqb (getD m j 0) 0) 1 (getD m j 0))
+
+-- Every mark after a step. "With none waiting, a step changes nothing."
+unfoldable pub stepped : Graph → List ℕ → List ℕ
+stepped g m = cond (waits g m) (tabulate (length m) (markAfter g m (firstWaiting m))) m
+
+unfoldable pub stepWalk : Graph → Walk → Walk
+stepWalk g w = record { marks = stepped g (w .marks) }
+
+-- "The start (root waiting, others untouched)."
+unfoldable pub started : ℕ → List ℕ
+started root = tabulate 256 (λ i. cond (eqb i root) 1 0)
+
+-- The marks where none waits any more: done is what is reached, and nothing else is touched; and the steps until then.
+unfoldable pub finished : Graph → ℕ → Walked
+finished g root =
+    record {
+      marks = tabulate 256 (λ i. cond (ltb root (g .size) && reachedFrom g root i) 2 (cond (eqb i root) 1 0));
+      steps = cond (ltb root (g .size)) (reachedCount g root) 0;
+    }

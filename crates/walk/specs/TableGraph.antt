@@ -1,0 +1,25 @@
+-- The graph that two tables give: a word of active bits for each node instance, and 64 places for the children of each.
+use Prim.Native.Nat.{ℕ, _+_, _*_, min}
+use mathlib.Core.Bool.{Bool, cond, _&&_}
+use mathlib.Core.List.{List}
+use mathlib.Core.Option.{Option, none, some}
+use lib.Dec.{ltb}
+use lib.ListN.{length, getD}
+use Rattle.numbers.specs.Bits.{bitOf}
+use Rattle.graph.specs.Chains.{Graph}
+
+-- "One mark for each of 256 node instances": the walk knows no others.
+unfoldable pub sizeOf : List ℕ → ℕ
+sizeOf act = min (length act) 256
+
+-- The child at a place of the table, if there is such a place and it holds a node instance.
+unfoldable pub childAt : ℕ → List ℕ → ℕ → Option ℕ
+childAt size ch k = cond (ltb k (length ch) && ltb (getD ch k 0) size) (some (getD ch k 0)) none
+
+unfoldable pub tableGraph : List ℕ → List ℕ → Graph
+tableGraph act ch =
+    record {
+      size = sizeOf act;
+      active = λ i b. ltb i (sizeOf act) && bitOf 64 (getD act i 0) b;
+      child = λ i b. cond (ltb i (sizeOf act) && ltb b 64) (childAt (sizeOf act) ch (i * 64 + b)) none;
+    }
