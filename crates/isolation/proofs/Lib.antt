@@ -1,2 +1,3 @@
 -- The laws of isolation, and the samples.
+pub mod RowsLaws
 mod SamplesHold

@@ -20,7 +20,7 @@ use Rattle.graph.specs.Paths.{reachedIn, reached, onCycle}
 use Rattle.isolation.specs.ChipGraph.{firstOf, ruleFor, rootFor, childFor, ruleUnread, ruleActive, entryActive, childPosition, entryChild, chipGraph}
 use Rattle.isolation.specs.Outcome.{entryUnread, reachedUnread, written, allRead, fromRoot, isolateIn, isolate}
 use Rattle.isolation.specs.Readings.{readingsFit, hasValue, wordFor, unreadFaults}
-use Rattle.isolation.specs.Records.{recordSize, recordBytes, listing, linkRecord, recordsOf}
+use Rattle.isolation.specs.Records.{recordSize, recordOf, recordBytes, listing, linkRecord, recordsOf}
 use Rattle.isolation.specs.Samples.{lent}
 use Rattle.numbers.specs.BigEndian.{bigEndian, bytesOf}
 use Rattle.numbers.specs.Bits.{bitOf, wordOf, notBits, andBits, orBits, leftBits, rightBits}
@@ -28,5 +28,5 @@ use Rattle.numbers.specs.Field.{present, field}
 use Rattle.isolation.specs.Samples.{AllHold, samples}
 
 pub samples-hold : AllHold samples
-unfolding leads childEdge OnCycle cyclesFrom cycleFaults operationOf readingAt operandsAt shiftedAt bodyAt exprAt fieldAt same keywordAt countAt knownType typeAt addressSize knownFlags flagsAt readable knownAttention attentionAt member fresh startAt rootAt rootsAt fileAt fileLimit registerLimit nodeLimit levels chipdata regs node root some position at gathered entriesOf registerEntries registerNamed nodeEntriesOf nodeEntries nodeNamed registerPosition nodePosition valueOf bitsOf captureAt ruleAt childAt instanceHeadAt nodeInstanceAt nodeTotal nodeHeadAt nodeAt nodesAt andThen making require requiring rowAt unless fits hasRule hasRegister hasNode captureFaults namedFaults ruleFaults childFaults instanceFaults rootFaults referenceFaults namedBy registerTotal registerInstanceAt registerHeadAt registerAt registersAt b1 selfChild gather judged verdict checkOf check any count linked reachedFrom listed below kept listedOf reachedCount reachedIn reached onCycle firstOf ruleFor rootFor childFor ruleUnread ruleActive entryActive childPosition entryChild chipGraph entryUnread reachedUnread written allRead fromRoot isolateIn isolate readingsFit hasValue wordFor unreadFaults recordSize recordBytes listing linkRecord recordsOf lent bigEndian bytesOf bitOf wordOf notBits andBits orBits leftBits rightBits present field
+unfolding leads childEdge OnCycle cyclesFrom cycleFaults operationOf readingAt operandsAt shiftedAt bodyAt exprAt fieldAt same keywordAt countAt knownType typeAt addressSize knownFlags flagsAt readable knownAttention attentionAt member fresh startAt rootAt rootsAt fileAt fileLimit registerLimit nodeLimit levels chipdata regs node root some position at gathered entriesOf registerEntries registerNamed nodeEntriesOf nodeEntries nodeNamed registerPosition nodePosition valueOf bitsOf captureAt ruleAt childAt instanceHeadAt nodeInstanceAt nodeTotal nodeHeadAt nodeAt nodesAt andThen making require requiring rowAt unless fits hasRule hasRegister hasNode captureFaults namedFaults ruleFaults childFaults instanceFaults rootFaults referenceFaults namedBy registerTotal registerInstanceAt registerHeadAt registerAt registersAt b1 selfChild gather judged verdict checkOf check any count linked reachedFrom listed below kept listedOf reachedCount reachedIn reached onCycle firstOf ruleFor rootFor childFor ruleUnread ruleActive entryActive childPosition entryChild chipGraph entryUnread reachedUnread written allRead fromRoot isolateIn isolate readingsFit hasValue wordFor unreadFaults recordSize recordOf recordBytes listing linkRecord recordsOf lent bigEndian bytesOf bitOf wordOf notBits andBits orBits leftBits rightBits present field
 samples-hold = (refl, (refl, (refl, (refl, (refl, (refl, (refl, (refl, (refl, (refl, (refl, (refl, tt))))))))))))

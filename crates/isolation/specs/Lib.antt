@@ -2,5 +2,6 @@
 pub mod Readings
 pub mod ChipGraph
 pub mod Records
+pub mod Rows
 pub mod Outcome
 pub mod Samples

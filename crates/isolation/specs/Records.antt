@@ -10,9 +10,11 @@ use Rattle.format.specs.Tree.{Chip}
 unfoldable pub recordSize : ℕ
 recordSize = 8
 
+unfoldable pub recordOf : ℕ → ℕ → ℕ → ℕ → List ℕ
+recordOf attention bit id number = bytesOf 1 attention ++ (bytesOf 1 bit ++ (bytesOf 2 id ++ (bytesOf 1 number ++ bytesOf 3 0)))
+
 unfoldable pub recordBytes : ℕ → ℕ → NodeEntry → List ℕ
-recordBytes attention bit e =
-    bytesOf 1 attention ++ (bytesOf 1 bit ++ (bytesOf 2 (e .id) ++ (bytesOf 1 (e .instance .number) ++ bytesOf 3 0)))
+recordBytes attention bit e = recordOf attention bit (e .id) (e .instance .number)
 
 -- "Order: node instances as they stand in the file, then bits from 0 up."
 unfoldable pub listing : Graph → ℕ → List Link

@@ -1,6 +1,8 @@
 // Isolation: which error bits are active, from a chip data file and register readings.
 use format::Refusal;
 
+mod list;
+
 // How many records were written, and how many node instances were reached.
 pub struct Isolation {
     pub records: usize,

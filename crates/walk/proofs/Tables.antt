@@ -43,7 +43,7 @@ pub child-there : (n : ℕ) (ch : List ℕ) (k : ℕ) → k < length ch → getD
 unfolding childAt
 child-there n ch k h l = simp (lt-ltb _ _ h, lt-ltb _ _ l)
 
-child-in : (n : ℕ) (ch : List ℕ) (k c : ℕ) → childAt n ch k ≡ some c → c < n
+pub child-in : (n : ℕ) (ch : List ℕ) (k c : ℕ) → childAt n ch k ≡ some c → c < n
 unfolding childAt
 child-in n ch k c = go (ltb k (length ch) && ltb (getD ch k 0) n) refl
   where
@@ -53,11 +53,11 @@ child-in n ch k c = go (ltb k (length ch) && ltb (getD ch k 0) n) refl
         omega (arith, ltb-true (getD ch k 0) n (and-right (ltb k (length ch)) _ e))
     go false e d = let z : _≡_ {A = ℕ} 0 1 = cc in absurd (omega arith)
 
-or-else-none : {n c : ℕ} (o : Option ℕ) → c ≡ orElse n o → n ≤ c → ((d : ℕ) → o ≡ some d → d < n) → o ≡ none
+pub or-else-none : {n c : ℕ} (o : Option ℕ) → c ≡ orElse n o → n ≤ c → ((d : ℕ) → o ≡ some d → d < n) → o ≡ none
 or-else-none none e l f = refl
 or-else-none (some d) e l f = let h = f d refl in absurd (omega arith)
 
-or-else-some : {n c : ℕ} (o : Option ℕ) → c ≡ orElse n o → c < n → o ≡ some c
+pub or-else-some : {n c : ℕ} (o : Option ℕ) → c ≡ orElse n o → c < n → o ≡ some c
 or-else-some none e l = absurd (omega arith)
 or-else-some (some d) e l = ap some (sym e)
 

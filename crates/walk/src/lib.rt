@@ -21,7 +21,7 @@ pub struct Walked {
 }
 
 // How many node instances the walk knows.
-fn size(active: &[u64]) -> usize
+pub fn size(active: &[u64]) -> usize
     ensures { λ r. ⌜ r ≡ sizeOf (now (active .entry)) ⌝ }
 {
     let n = active.len();
@@ -43,7 +43,7 @@ fn first_waiting(m: &[u8]) -> usize
 }
 
 // The child at a place of the table, or n where there is none.
-fn child_at(n: usize, child: &[u16], k: usize) -> usize
+pub fn child_at(n: usize, child: &[u16], k: usize) -> usize
     ensures { λ r. ⌜ r ≡ orElse n (childAt n (now (child .entry)) k) ⌝ }
 {
     if child.len() <= k {

@@ -1,0 +1,85 @@
+// The list: the listed bits are counted first, and their records written only where there is room for all.
+ghost use mathlib.Core.Path.{_≡_};
+ghost use mathlib.Core.List.{[], _∷_, _++_};
+ghost use Prim.Native.Nat.{_+_, _<_, _≤_};
+ghost use lib.ListN.{length, take, drop};
+ghost use Rattle.graph.specs.Chains.{kept};
+ghost use Rattle.walk.specs.TableGraph.{sizeOf, tableGraph};
+ghost use Rattle.isolation.specs.Rows.{shown, bitsTo, rowLinks, rowsTo};
+ghost use Rattle.isolation.specs.Records.{recordOf};
+
+// Whether bit b of the instance i is active and has no child.
+fn is_shown(active: &[u64], child: &[u16], n: usize, i: usize, b: u8) -> bool
+    requires { ⌜ (n ≡ sizeOf (now active)) × (i < n) × (b < 64) ⌝ }
+    ensures { λ r. ⌜ r ≡ shown (tableGraph (now (active .entry)) (now (child .entry))) i b ⌝ }
+{
+    if !numbers::bit(active[i], b) {
+        return false;
+    }
+    n <= walk::child_at(n, child, i * 64 + b as usize)
+}
+
+// 1 where bit b of the instance i is shown, otherwise 0.
+fn count_bit(active: &[u64], child: &[u16], n: usize, i: usize, b: u8) -> usize
+    requires { ⌜ (n ≡ sizeOf (now active)) × (i < n) × (b < 64) ⌝ }
+    ensures { λ r. ⌜ r ≡ length (kept (shown (tableGraph (now (active .entry)) (now (child .entry))) i) (b ∷ [])) ⌝ }
+{
+    if is_shown(active, child, n, i, b) {
+        return 1;
+    }
+    0
+}
+
+// How many bits of the instance i are shown. It looks at each of its 64 bits once.
+fn count_bits(active: &[u64], child: &[u16], n: usize, i: usize) -> usize
+    requires { ⌜ (n ≡ sizeOf (now active)) × (i < n) ⌝ }
+    ensures { λ r. ⌜ r ≡ length (bitsTo (tableGraph (now (active .entry)) (now (child .entry))) i 64) ⌝ }
+{
+    let mut count = 0;
+    let mut b: u8 = 0;
+    while b < 64 {
+        count += count_bit(active, child, n, i, b);
+        b += 1;
+    }
+    count
+}
+
+// How many links the instance i has in the list: none unless it is done.
+fn count_row(marks: &[u8], active: &[u64], child: &[u16], n: usize, i: usize) -> usize
+    requires { ⌜ (n ≡ sizeOf (now active)) × (i < n) × (n ≤ length (now marks)) ⌝ }
+    ensures { λ r. ⌜ r ≡ length (rowLinks (tableGraph (now (active .entry)) (now (child .entry))) (now (marks .entry)) i) ⌝ }
+{
+    if marks[i] == 2 {
+        return count_bits(active, child, n, i);
+    }
+    0
+}
+
+// How many links the list has. It looks at each instance once.
+fn count_rows(marks: &[u8], active: &[u64], child: &[u16], n: usize) -> usize
+    requires { ⌜ (n ≡ sizeOf (now active)) × (n ≤ length (now marks)) ⌝ }
+    ensures { λ r. ⌜ r ≡ length (rowsTo (tableGraph (now (active .entry)) (now (child .entry))) (now (marks .entry)) n) ⌝ }
+{
+    let mut count = 0;
+    let mut i = 0;
+    while i < n {
+        count += count_row(marks, active, child, n, i);
+        i += 1;
+    }
+    count
+}
+
+// A record at a place of the list.
+fn put_record(list: &mut [u8], at: usize, attention: u8, bit: u8, id: u16, number: u8)
+    requires { ⌜ at + 8 ≤ length (now list) ⌝ }
+    ensures { λ r. ⌜ now (list .exit) ≡ take at (now (list .entry)) ++ (recordOf attention bit id number ++ drop (at + 8) (now (list .entry))) ⌝ }
+{
+    list[at] = attention;
+    list[at + 1] = bit;
+    list[at + 2] = (id / 256) as u8;
+    list[at + 3] = (id % 256) as u8;
+    list[at + 4] = number;
+    list[at + 5] = 0;
+    list[at + 6] = 0;
+    list[at + 7] = 0;
+}
