@@ -1,3 +1,4 @@
 -- The laws of isolation, and the samples.
 pub mod RowsLaws
+pub mod WriteLaws
 mod SamplesHold

@@ -52,7 +52,7 @@ kept-append p (x ∷ xs) ys = go (p x) (kept-append p xs ys)
     go true e = rw e
     go false e = e
 
-gathered-append : {A B : Type 0} (f : A → List B) (xs ys : List A) → gathered f (xs ++ ys) ≡ gathered f xs ++ gathered f ys
+pub gathered-append : {A B : Type 0} (f : A → List B) (xs ys : List A) → gathered f (xs ++ ys) ≡ gathered f xs ++ gathered f ys
 unfolding gathered
 gathered-append f [] ys = refl
 gathered-append f (x ∷ xs) ys = rw (gathered-append f xs ys) (sym (append-assoc (f x) (gathered f xs) (gathered f ys)))

@@ -1,9 +1,10 @@
 -- The listing as the code goes through it: node instances from 0 up, and of each done one the bits from 0 up.
-use Prim.Native.Nat.{ℕ}
+use Prim.Native.Nat.{ℕ, _+_}
 use mathlib.Core.Bool.{Bool, cond, _&&_}
-use mathlib.Core.List.{List, [], map}
+use mathlib.Core.List.{List, [], _++_, map}
+use mathlib.Core.Path.{_≡_}
 use lib.Dec.{eqb}
-use lib.ListN.{getD}
+use lib.ListN.{length, getD, take, drop}
 use Rattle.graph.specs.Chains.{Graph, Link, bare, below, kept}
 use Rattle.format.specs.Lookup.{gathered}
 use Rattle.isolation.specs.Records.{recordOf}
@@ -28,9 +29,21 @@ rowLinks g marks i = cond (isDone marks i) (map (λ b. record { instance = i; bi
 unfoldable pub rowsTo : Graph → List ℕ → ℕ → List Link
 rowsTo g marks n = gathered (rowLinks g marks) (below n)
 
--- The records, from tables of node IDs and instance numbers.
-unfoldable pub tableRecord : ℕ → List ℕ → List ℕ → Link → List ℕ
-tableRecord attention ids numbers l = recordOf attention (l .bit) (getD ids (l .instance) 0) (getD numbers (l .instance) 0)
+-- The records of some bits of a node instance with this ID and number.
+unfoldable pub bitRecords : ℕ → ℕ → ℕ → List ℕ → List ℕ
+bitRecords attention id number bits = gathered (λ b. recordOf attention b id number) bits
 
-unfoldable pub tableRecords : ℕ → List ℕ → List ℕ → List Link → List ℕ
-tableRecords attention ids numbers ls = gathered (tableRecord attention ids numbers) ls
+-- The records of the node instance i, if it is done, from tables of node IDs and instance numbers.
+unfoldable pub rowRecords : ℕ → List ℕ → List ℕ → Graph → List ℕ → ℕ → List ℕ
+rowRecords attention ids numbers g marks i =
+    cond (isDone marks i) (bitRecords attention (getD ids i 0) (getD numbers i 0) (bitsTo g i 64)) []
+
+-- Those of the first n node instances.
+unfoldable pub rowsRecords : ℕ → List ℕ → List ℕ → Graph → List ℕ → ℕ → List ℕ
+rowsRecords attention ids numbers g marks n = gathered (rowRecords attention ids numbers g marks) (below n)
+
+-- Some bytes were written at a place: the list before and after, and the place after them.
+pub record Wrote (old new : List ℕ) (at next : ℕ) (bs : List ℕ) : Type 0 where
+  pub content : new ≡ take at old ++ (bs ++ drop next old)
+  pub ends : next ≡ at + length bs
+  pub same : length new ≡ length old

@@ -1,11 +1,11 @@
 // The list: the listed bits are counted first, and their records written only where there is room for all.
 ghost use mathlib.Core.Path.{_≡_};
 ghost use mathlib.Core.List.{[], _∷_, _++_};
-ghost use Prim.Native.Nat.{_+_, _<_, _≤_};
+ghost use Prim.Native.Nat.{_+_, _*_, _<_, _≤_};
 ghost use lib.ListN.{length, take, drop};
 ghost use Rattle.graph.specs.Chains.{kept};
 ghost use Rattle.walk.specs.TableGraph.{sizeOf, tableGraph};
-ghost use Rattle.isolation.specs.Rows.{shown, bitsTo, rowLinks, rowsTo};
+ghost use Rattle.isolation.specs.Rows.{shown, bitsTo, rowLinks, rowsTo, bitRecords, Wrote};
 ghost use Rattle.isolation.specs.Records.{recordOf};
 
 // Whether bit b of the instance i is active and has no child.
@@ -82,4 +82,53 @@ fn put_record(list: &mut [u8], at: usize, attention: u8, bit: u8, id: u16, numbe
     list[at + 5] = 0;
     list[at + 6] = 0;
     list[at + 7] = 0;
+}
+
+// The record of bit b of the instance i, if it is shown: the place after it.
+fn put_bit(
+    list: &mut [u8],
+    at: usize,
+    attention: u8,
+    id: u16,
+    number: u8,
+    active: &[u64],
+    child: &[u16],
+    n: usize,
+    i: usize,
+    b: u8,
+) -> usize
+    requires { ⌜ (n ≡ sizeOf (now active)) × (i < n) × (b < 64) ⌝ }
+    requires { ⌜ at + 8 * length (kept (shown (tableGraph (now active) (now child)) i) (b ∷ [])) ≤ length (now list) ⌝ }
+    ensures { λ r. ⌜ Wrote (now (list .entry)) (now (list .exit)) at r (bitRecords attention id number (kept (shown (tableGraph (now (active .entry)) (now (child .entry))) i) (b ∷ []))) ⌝ }
+{
+    if is_shown(active, child, n, i, b) {
+        put_record(list, at, attention, b, id, number);
+        return at + 8;
+    }
+    at
+}
+
+// The records of the shown bits of the instance i: the place after them. It looks at each of its 64 bits once.
+fn put_bits(
+    list: &mut [u8],
+    at: usize,
+    attention: u8,
+    id: u16,
+    number: u8,
+    active: &[u64],
+    child: &[u16],
+    n: usize,
+    i: usize,
+) -> usize
+    requires { ⌜ (n ≡ sizeOf (now active)) × (i < n) ⌝ }
+    requires { ⌜ at + 8 * length (bitsTo (tableGraph (now active) (now child)) i 64) ≤ length (now list) ⌝ }
+    ensures { λ r. ⌜ Wrote (now (list .entry)) (now (list .exit)) at r (bitRecords attention id number (bitsTo (tableGraph (now (active .entry)) (now (child .entry))) i 64)) ⌝ }
+{
+    let mut place = at;
+    let mut b: u8 = 0;
+    while b < 64 {
+        place = put_bit(list, place, attention, id, number, active, child, n, i, b);
+        b += 1;
+    }
+    place
 }

@@ -1,0 +1,101 @@
+-- The laws of writing: records one after another, and the rest of the list as it was.
+use mathlib.Core.Path.{_≡_, refl, sym, ap, _∙_}
+use mathlib.Core.Bool.{Bool, true, false}
+use mathlib.Core.List.{List, [], _∷_, _++_, append-assoc, append-nil}
+use Prim.Native.Nat.{ℕ, zero, suc, _+_, _-_, _*_, _≤_, _<_}
+use native.Mathlib.Nat.{add-zero}
+use native.Mathlib.Omega.{arith}
+use lib.ListN.{length, take, drop, length-append, length-take, length-drop, take-append-drop}
+use lib.Seq.{take-at, drop-append-add, drop-at, drop-drop, length-take-le}
+use Rattle.numbers.specs.BigEndian.{bytesOf}
+use Rattle.numbers.proofs.BigEndianLaws.{length-bytes}
+use Rattle.graph.specs.Chains.{Graph, below, kept}
+use Rattle.format.specs.Lookup.{gathered}
+use Rattle.isolation.specs.Records.{recordOf}
+use Rattle.isolation.specs.Rows.{shown, bitsTo, bitRecords, Wrote}
+use Rattle.isolation.proofs.RowsLaws.{gathered-append, bits-more}
+
+pub record-length : (attention bit id number : ℕ) → length (recordOf attention bit id number) ≡ 8
+unfolding recordOf
+record-length attention bit id number = simp (length-append, length-bytes)
+
+pub records-length : (attention id number : ℕ) (bits : List ℕ) → length (bitRecords attention id number bits) ≡ 8 * length bits
+unfolding bitRecords gathered
+records-length attention id number [] = refl
+records-length attention id number (b ∷ bits) =
+    length-append (recordOf attention b id number) (bitRecords attention id number bits)
+    ∙ omega (arith, record-length attention b id number, records-length attention id number bits)
+
+-- Nothing was written.
+pub wrote-none : (list : List ℕ) (at : ℕ) → Wrote list list at at []
+wrote-none list at = record { content = sym (take-append-drop at list); ends = omega arith; same = refl }
+
+-- Bytes after bytes.
+pub wrote-more : {old mid new : List ℕ} {at k next : ℕ} {xs ys : List ℕ} → Wrote old mid at k xs → Wrote mid new k next ys → next ≤ length old
+    → Wrote old new at next (xs ++ ys)
+wrote-more {old} {mid} {new} {at} {k} {next} {xs} {ys} a b h =
+    let l : length (take at old ++ xs) ≡ k = omega (arith, length-append (take at old) xs, length-take at old, a .ends, b .ends) in
+    let m : mid ≡ (take at old ++ xs) ++ drop k old = a .content ∙ sym (append-assoc (take at old) xs (drop k old)) in
+    let front : take k mid ≡ take at old ++ xs = ap (take k) m ∙ take-at (take at old ++ xs) (drop k old) k l in
+    let e : next ≡ k + length ys = b .ends in
+    let back : drop next mid ≡ drop next old =
+    ap (drop next) m ∙ ap (λ q. drop q ((take at old ++ xs) ++ drop k old)) (let w : next ≡ length (take at old ++ xs) + length ys = omega (arith, l) in w)
+    ∙ drop-append-add (take at old ++ xs) (drop k old) (length ys) ∙ drop-drop (length ys) k old ∙ ap (λ q. drop q old) (sym e) in
+    record {
+      content = b .content ∙ rw (front, back) (append-assoc (take at old) xs (ys ++ drop next old) ∙ ap (λ q. take at old ++ q) (sym (append-assoc xs ys (drop next old))));
+      ends = omega (arith, length-append xs ys, a .ends, b .ends);
+      same = b .same ∙ a .same;
+    }
+
+module _ (g : Graph) (attention id number i : ℕ) where
+  -- One bit.
+  pub bit-wrote : (b : ℕ) {t : Bool} {old new : List ℕ} {at : ℕ} → t ≡ shown g i b → t ≡ true
+      → new ≡ take at old ++ (recordOf attention b id number ++ drop (at + 8) old) → length new ≡ length old
+      → Wrote old new at (at + 8) (bitRecords attention id number (kept (shown g i) (b ∷ [])))
+  unfolding kept bitRecords gathered
+  bit-wrote b e d c s =
+      rw (sym e ∙ d, append-nil)
+      (record { content = c; ends = omega (arith, record-length attention b id number); same = s })
+
+  pub bit-kept : (b : ℕ) {t : Bool} {old : List ℕ} {at : ℕ} → t ≡ shown g i b → t ≡ false
+      → Wrote old old at at (bitRecords attention id number (kept (shown g i) (b ∷ [])))
+  unfolding kept bitRecords gathered
+  bit-kept b {old = old} {at = at} e d = rw (sym e ∙ d) (wrote-none old at)
+
+  -- Bit after bit.
+  pub bits-started : {old : List ℕ} (at : ℕ) → Wrote old old at at (bitRecords attention id number (bitsTo g i 0))
+  unfolding bitsTo kept bitRecords gathered below
+  bits-started {old} at = wrote-none old at
+
+  pub bits-wrote : (b : ℕ) {old mid new : List ℕ} {at k next : ℕ} → Wrote old mid at k (bitRecords attention id number (bitsTo g i b))
+      → Wrote mid new k next (bitRecords attention id number (kept (shown g i) (b ∷ []))) → next ≤ length old
+      → Wrote old new at next (bitRecords attention id number (bitsTo g i (b + 1)))
+  unfolding bitRecords
+  bits-wrote b x y h =
+      rw (bits-more g i b, gathered-append (λ c. recordOf attention c id number) (bitsTo g i b) (kept (shown g i) (b ∷ []))) (wrote-more x y h)
+
+  pub bits-finished : (b n : ℕ) {old new : List ℕ} {at next : ℕ} → b ≡ n → Wrote old new at next (bitRecords attention id number (bitsTo g i b))
+      → Wrote old new at next (bitRecords attention id number (bitsTo g i n))
+  bits-finished b n e w = rw (← e) w
+
+  -- While there is room for all 64 bits, there is room for the next.
+  bits-mono : (b k : ℕ) → length (bitsTo g i b) ≤ length (bitsTo g i (b + k))
+  bits-mono b zero = rw add-zero (omega arith)
+  bits-mono b (suc k) =
+      let e : b + suc k ≡ b + k + 1 = omega arith in
+      rw e (omega (arith, bits-mono b k, ap length (bits-more g i (b + k)), length-append (bitsTo g i (b + k)) (kept (shown g i) ((b + k) ∷ []))))
+
+  pub room-next : (b : ℕ) {old mid : List ℕ} {at k : ℕ} → b < 64 → at + 8 * length (bitsTo g i 64) ≤ length old
+      → Wrote old mid at k (bitRecords attention id number (bitsTo g i b))
+      → (k + 8 * length (kept (shown g i) (b ∷ [])) ≤ length old)
+  room-next b {k = k} h r w =
+      let e : b + 1 + (63 - b) ≡ 64 = omega arith in
+      let m : length (bitsTo g i (b + 1)) ≤ length (bitsTo g i 64) = rw e at (bits-mono (b + 1) (63 - b)) in
+      omega (
+        arith,
+        m,
+        w .ends,
+        records-length attention id number (bitsTo g i b),
+        ap length (bits-more g i b),
+        length-append (bitsTo g i b) (kept (shown g i) (b ∷ [])),
+      )
