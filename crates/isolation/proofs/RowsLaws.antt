@@ -57,7 +57,7 @@ unfolding gathered
 gathered-append f [] ys = refl
 gathered-append f (x ∷ xs) ys = rw (gathered-append f xs ys) (sym (append-assoc (f x) (gathered f xs) (gathered f ys)))
 
-gathered-one : {A B : Type 0} (f : A → List B) (x : A) → gathered f (x ∷ []) ≡ f x
+pub gathered-one : {A B : Type 0} (f : A → List B) (x : A) → gathered f (x ∷ []) ≡ f x
 unfolding gathered
 gathered-one f x = append-nil (f x)
 

@@ -1,19 +1,21 @@
 -- The laws of writing: records one after another, and the rest of the list as it was.
 use mathlib.Core.Path.{_≡_, refl, sym, ap, _∙_}
-use mathlib.Core.Bool.{Bool, true, false}
-use mathlib.Core.List.{List, [], _∷_, _++_, append-assoc, append-nil}
+use mathlib.Core.Bool.{Bool, true, false, cond}
+use mathlib.Core.List.{List, [], _∷_, _++_, map, append-assoc, append-nil}
 use Prim.Native.Nat.{ℕ, zero, suc, _+_, _-_, _*_, _≤_, _<_}
 use native.Mathlib.Nat.{add-zero}
+use native.Mathlib.Numerals.{add-one}
 use native.Mathlib.Omega.{arith}
-use lib.ListN.{length, take, drop, length-append, length-take, length-drop, take-append-drop}
+use borrow.Author.Tests.{eq-eqb, ne-eqb}
+use lib.ListN.{length, getD, take, drop, length-map, length-append, length-take, length-drop, take-append-drop}
 use lib.Seq.{take-at, drop-append-add, drop-at, drop-drop, length-take-le}
 use Rattle.numbers.specs.BigEndian.{bytesOf}
 use Rattle.numbers.proofs.BigEndianLaws.{length-bytes}
-use Rattle.graph.specs.Chains.{Graph, below, kept}
+use Rattle.graph.specs.Chains.{Graph, Link, below, kept}
 use Rattle.format.specs.Lookup.{gathered}
 use Rattle.isolation.specs.Records.{recordOf}
-use Rattle.isolation.specs.Rows.{shown, bitsTo, bitRecords, Wrote}
-use Rattle.isolation.proofs.RowsLaws.{gathered-append, bits-more}
+use Rattle.isolation.specs.Rows.{shown, bitsTo, isDone, rowLinks, rowsTo, bitRecords, rowRecords, rowsRecords, Wrote}
+use Rattle.isolation.proofs.RowsLaws.{gathered-append, gathered-one, bits-more, row-done, rows-none, rows-more}
 
 pub record-length : (attention bit id number : ℕ) → length (recordOf attention bit id number) ≡ 8
 unfolding recordOf
@@ -99,3 +101,80 @@ module _ (g : Graph) (attention id number i : ℕ) where
         ap length (bits-more g i b),
         length-append (bitsTo g i b) (kept (shown g i) (b ∷ [])),
       )
+
+module _ (attention : ℕ) (ids numbers : List ℕ) (g : Graph) (marks : List ℕ) where
+  -- One node instance.
+  pub row-wrote : (i : ℕ) {old new : List ℕ} {at next : ℕ} → getD marks i 0 ≡ 2
+      → Wrote old new at next (bitRecords attention (getD ids i 0) (getD numbers i 0) (bitsTo g i 64))
+      → Wrote old new at next (rowRecords attention ids numbers g marks i)
+  unfolding rowRecords isDone
+  row-wrote i e w = rw (eq-eqb _ 2 e) w
+
+  pub row-kept : (i : ℕ) {old : List ℕ} {at : ℕ} → (getD marks i 0 ≡ 2 → ⊥) → Wrote old old at at (rowRecords attention ids numbers g marks i)
+  unfolding rowRecords isDone
+  row-kept i {old} {at} e = rw (ne-eqb _ 2 e) (wrote-none old at)
+
+  -- A done node instance has as many links as bits that are shown.
+  pub row-room : (i : ℕ) (list : List ℕ) (at : ℕ) → getD marks i 0 ≡ 2 → at + 8 * length (rowLinks g marks i) ≤ length list
+      → at + 8 * length (bitsTo g i 64) ≤ length list
+  row-room i list at e h = omega (arith, row-done g marks i e refl)
+
+  -- Node instance after node instance.
+  pub rows-started : {old : List ℕ} → Wrote old old 0 0 (rowsRecords attention ids numbers g marks 0)
+  unfolding rowsRecords gathered below
+  rows-started {old} = wrote-none old 0
+
+  rows-records : (i : ℕ) → rowsRecords attention ids numbers g marks (i + 1) ≡ rowsRecords attention ids numbers g marks i ++ rowRecords attention ids numbers g marks i
+  unfolding rowsRecords below
+  rows-records i = rw add-one (gathered-append (rowRecords attention ids numbers g marks) (below i) (i ∷ []) ∙ rw gathered-one)
+
+  pub rows-wrote : (i : ℕ) {old mid new : List ℕ} {k next : ℕ} → Wrote old mid 0 k (rowsRecords attention ids numbers g marks i)
+      → Wrote mid new k next (rowRecords attention ids numbers g marks i) → next ≤ length old
+      → Wrote old new 0 next (rowsRecords attention ids numbers g marks (i + 1))
+  rows-wrote i x y h = rw (rows-records i) (wrote-more x y h)
+
+  pub rows-finished : (i n : ℕ) {old new : List ℕ} {next : ℕ} → i ≡ n → Wrote old new 0 next (rowsRecords attention ids numbers g marks i)
+      → Wrote old new 0 next (rowsRecords attention ids numbers g marks n)
+  rows-finished i n e w = rw (← e) w
+
+  pub row-length : (i : ℕ) → length (rowRecords attention ids numbers g marks i) ≡ 8 * length (rowLinks g marks i)
+  unfolding rowRecords rowLinks
+  row-length i = go (isDone marks i)
+    where
+      link : ℕ → Link
+      link b = record { instance = i; bit = b }
+
+      go : (t : Bool) → length (cond t (bitRecords attention (getD ids i 0) (getD numbers i 0) (bitsTo g i 64)) []) ≡ 8 * length (cond t (map link (bitsTo g i 64)) [])
+      go true = rw length-map (records-length attention (getD ids i 0) (getD numbers i 0) (bitsTo g i 64))
+      go false = refl
+
+  pub rows-length : (n : ℕ) → length (rowsRecords attention ids numbers g marks n) ≡ 8 * length (rowsTo g marks n)
+  rows-length zero = omega (arith, rows-started {old = []} .ends, rows-none g marks)
+  rows-length (suc n) =
+      let e : rowsRecords attention ids numbers g marks (suc n) ≡ rowsRecords attention ids numbers g marks (n + 1) = ap (rowsRecords attention ids numbers g marks) (sym (add-one n)) in
+      let d : rowsTo g marks (suc n) ≡ rowsTo g marks (n + 1) = ap (rowsTo g marks) (sym (add-one n)) in
+      omega (
+        arith,
+        ap length e,
+        ap length d,
+        ap length (rows-records n),
+        length-append (rowsRecords attention ids numbers g marks n) (rowRecords attention ids numbers g marks n),
+        ap length (rows-more g marks n),
+        length-append (rowsTo g marks n) (rowLinks g marks n),
+        row-length n,
+        rows-length n,
+      )
+
+  rows-mono : (i k : ℕ) → length (rowsTo g marks i) ≤ length (rowsTo g marks (i + k))
+  rows-mono i zero = rw add-zero (omega arith)
+  rows-mono i (suc k) =
+      let e : i + suc k ≡ i + k + 1 = omega arith in
+      rw e (omega (arith, rows-mono i k, ap length (rows-more g marks (i + k)), length-append (rowsTo g marks (i + k)) (rowLinks g marks (i + k))))
+
+  -- While there is room for all node instances, there is room for the next.
+  pub rows-room : (i n : ℕ) {old mid : List ℕ} {k : ℕ} → i < n → 8 * length (rowsTo g marks n) ≤ length old
+      → Wrote old mid 0 k (rowsRecords attention ids numbers g marks i) → k + 8 * length (rowLinks g marks i) ≤ length old
+  rows-room i n {k = k} h r w =
+      let e : i + 1 + (n - 1 - i) ≡ n = omega arith in
+      let m : length (rowsTo g marks (i + 1)) ≤ length (rowsTo g marks n) = rw e at (rows-mono (i + 1) (n - 1 - i)) in
+      omega (arith, m, w .ends, rows-length i, ap length (rows-more g marks i), length-append (rowsTo g marks i) (rowLinks g marks i))

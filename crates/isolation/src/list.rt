@@ -5,7 +5,7 @@ ghost use Prim.Native.Nat.{_+_, _*_, _<_, _≤_};
 ghost use lib.ListN.{length, take, drop};
 ghost use Rattle.graph.specs.Chains.{kept};
 ghost use Rattle.walk.specs.TableGraph.{sizeOf, tableGraph};
-ghost use Rattle.isolation.specs.Rows.{shown, bitsTo, rowLinks, rowsTo, bitRecords, Wrote};
+ghost use Rattle.isolation.specs.Rows.{shown, bitsTo, rowLinks, rowsTo, bitRecords, rowRecords, rowsRecords, Wrote};
 ghost use Rattle.isolation.specs.Records.{recordOf};
 
 // Whether bit b of the instance i is active and has no child.
@@ -129,6 +129,64 @@ fn put_bits(
     while b < 64 {
         place = put_bit(list, place, attention, id, number, active, child, n, i, b);
         b += 1;
+    }
+    place
+}
+
+// The records of the instance i, if it is done: the place after them.
+fn put_row(
+    list: &mut [u8],
+    at: usize,
+    attention: u8,
+    ids: &[u16],
+    numbers: &[u8],
+    marks: &[u8],
+    active: &[u64],
+    child: &[u16],
+    n: usize,
+    i: usize,
+) -> usize
+    requires { ⌜ (n ≡ sizeOf (now active)) × (i < n) × (n ≤ length (now marks)) × (n ≤ length (now ids)) × (n ≤ length (now numbers)) ⌝ }
+    requires { ⌜ at + 8 * length (rowLinks (tableGraph (now active) (now child)) (now marks) i) ≤ length (now list) ⌝ }
+    ensures { λ r. ⌜ Wrote (now (list .entry)) (now (list .exit)) at r (rowRecords attention (now (ids .entry)) (now (numbers .entry)) (tableGraph (now (active .entry)) (now (child .entry))) (now (marks .entry)) i) ⌝ }
+{
+    if marks[i] == 2 {
+        return put_bits(list, at, attention, ids[i], numbers[i], active, child, n, i);
+    }
+    at
+}
+
+// The records of all done instances from the front of the list on: the place after them. It looks at each instance once.
+fn put_rows(
+    list: &mut [u8],
+    attention: u8,
+    ids: &[u16],
+    numbers: &[u8],
+    marks: &[u8],
+    active: &[u64],
+    child: &[u16],
+    n: usize,
+) -> usize
+    requires { ⌜ (n ≡ sizeOf (now active)) × (n ≤ length (now marks)) × (n ≤ length (now ids)) × (n ≤ length (now numbers)) ⌝ }
+    requires { ⌜ 8 * length (rowsTo (tableGraph (now active) (now child)) (now marks) n) ≤ length (now list) ⌝ }
+    ensures { λ r. ⌜ Wrote (now (list .entry)) (now (list .exit)) 0 r (rowsRecords attention (now (ids .entry)) (now (numbers .entry)) (tableGraph (now (active .entry)) (now (child .entry))) (now (marks .entry)) n) ⌝ }
+{
+    let mut place = 0;
+    let mut i = 0;
+    while i < n {
+        place = put_row(
+            list,
+            place,
+            attention,
+            ids,
+            numbers,
+            marks,
+            active,
+            child,
+            n,
+            i,
+        );
+        i += 1;
     }
     place
 }
