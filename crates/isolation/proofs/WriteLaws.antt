@@ -2,19 +2,22 @@
 use mathlib.Core.Path.{_≡_, refl, sym, ap, _∙_}
 use mathlib.Core.Bool.{Bool, true, false, cond}
 use mathlib.Core.List.{List, [], _∷_, _++_, map, append-assoc, append-nil}
-use Prim.Native.Nat.{ℕ, zero, suc, _+_, _-_, _*_, _≤_, _<_}
-use native.Mathlib.Nat.{add-zero}
+use Prim.Native.Nat.{ℕ, zero, suc, _+_, _-_, _*_, _/_, _≤_, _<_}
+use native.Mathlib.Nat.{add-zero, zero-add}
 use native.Mathlib.Numerals.{add-one}
 use native.Mathlib.Omega.{arith}
-use borrow.Author.Tests.{eq-eqb, ne-eqb}
+use borrow.Author.Tests.{eq-eqb, ne-eqb, le-leb, lt-leb}
 use lib.ListN.{length, getD, take, drop, length-map, length-append, length-take, length-drop, take-append-drop}
 use lib.Seq.{take-at, drop-append-add, drop-at, drop-drop, length-take-le}
 use Rattle.numbers.specs.BigEndian.{bytesOf}
 use Rattle.numbers.proofs.BigEndianLaws.{length-bytes}
 use Rattle.graph.specs.Chains.{Graph, Link, below, kept}
 use Rattle.format.specs.Lookup.{gathered}
-use Rattle.isolation.specs.Records.{recordOf}
-use Rattle.isolation.specs.Rows.{shown, bitsTo, isDone, rowLinks, rowsTo, bitRecords, rowRecords, rowsRecords, Wrote}
+use Rattle.walk.specs.TableGraph.{sizeOf, tableGraph}
+use Rattle.isolation.specs.declared.Listing
+use Rattle.isolation.specs.declared.Listing.{Listing}
+use Rattle.isolation.specs.Records.{recordOf, recordSize}
+use Rattle.isolation.specs.Rows.{shown, bitsTo, isDone, rowLinks, rowsTo, bitRecords, rowRecords, rowsRecords, Wrote, roomFor, holds, listingOf}
 use Rattle.isolation.proofs.RowsLaws.{gathered-append, gathered-one, bits-more, row-done, rows-none, rows-more}
 
 pub record-length : (attention bit id number : ℕ) → length (recordOf attention bit id number) ≡ 8
@@ -178,3 +181,35 @@ module _ (attention : ℕ) (ids numbers : List ℕ) (g : Graph) (marks : List �
       let e : i + 1 + (n - 1 - i) ≡ n = omega arith in
       let m : length (rowsTo g marks (i + 1)) ≤ length (rowsTo g marks n) = rw e at (rows-mono (i + 1) (n - 1 - i)) in
       omega (arith, m, w .ends, rows-length i, ap length (rows-more g marks i), length-append (rowsTo g marks i) (rowLinks g marks i))
+
+-- Room
+
+module _ (ids numbers marks act ch : List ℕ) (n bytes : ℕ) (size : n ≡ sizeOf act) where
+  pub unfit-marks : length marks < n → Listing.Unfit ≡ listingOf ids numbers marks act ch bytes
+  unfolding listingOf holds
+  unfit-marks h = rw (← size, lt-leb _ _ h)
+
+  pub unfit-ids : n ≤ length marks → length ids < n → Listing.Unfit ≡ listingOf ids numbers marks act ch bytes
+  unfolding listingOf holds
+  unfit-ids m h = rw (← size, le-leb _ _ m, lt-leb _ _ h)
+
+  pub unfit-numbers : n ≤ length marks → n ≤ length ids → length numbers < n → Listing.Unfit ≡ listingOf ids numbers marks act ch bytes
+  unfolding listingOf holds
+  unfit-numbers m i h = rw (← size, le-leb _ _ m, le-leb _ _ i, lt-leb _ _ h)
+
+  module _ (m : n ≤ length marks) (i : n ≤ length ids) (k : n ≤ length numbers) {c : ℕ} (e : c ≡ length (rowsTo (tableGraph act ch) marks n)) where
+    fit : listingOf ids numbers marks act ch bytes ≡ roomFor c bytes
+    unfolding listingOf holds
+    fit = rw (← size, le-leb _ _ m, le-leb _ _ i, le-leb _ _ k, e)
+
+    pub room-yes : c ≤ bytes / 8 → Listing.Written c ≡ listingOf ids numbers marks act ch bytes
+    unfolding roomFor recordSize
+    room-yes h = sym (fit ∙ rw (le-leb _ _ h))
+
+    pub room-no : bytes / 8 < c → Listing.NoRoom c ≡ listingOf ids numbers marks act ch bytes
+    unfolding roomFor recordSize
+    room-no h = sym (fit ∙ rw (lt-leb _ _ h))
+
+-- What was written from the front on.
+pub written-front : {old new bs : List ℕ} {next : ℕ} → Wrote old new 0 next bs → new ≡ bs ++ drop (length bs) old
+written-front {old} {new} {bs} w = w .content ∙ ap (λ q. bs ++ drop q old) (let e : _ ≡ length bs = w .ends ∙ zero-add (length bs) in e)

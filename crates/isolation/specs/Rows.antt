@@ -1,13 +1,16 @@
 -- The listing as the code goes through it: node instances from 0 up, and of each done one the bits from 0 up.
-use Prim.Native.Nat.{ℕ, _+_}
+use Prim.Native.Nat.{ℕ, _+_, _/_}
 use mathlib.Core.Bool.{Bool, cond, _&&_}
 use mathlib.Core.List.{List, [], _++_, map}
 use mathlib.Core.Path.{_≡_}
-use lib.Dec.{eqb}
+use lib.Dec.{eqb, leb}
 use lib.ListN.{length, getD, take, drop}
 use Rattle.graph.specs.Chains.{Graph, Link, bare, below, kept}
 use Rattle.format.specs.Lookup.{gathered}
-use Rattle.isolation.specs.Records.{recordOf}
+use Rattle.walk.specs.TableGraph.{sizeOf, tableGraph}
+use Rattle.isolation.specs.declared.Listing
+use Rattle.isolation.specs.declared.Listing.{Listing}
+use Rattle.isolation.specs.Records.{recordOf, recordSize}
 
 -- Bit b of i is active and has no child.
 unfoldable pub shown : Graph → ℕ → ℕ → Bool
@@ -47,3 +50,24 @@ pub record Wrote (old new : List ℕ) (at next : ℕ) (bs : List ℕ) : Type 0 w
   pub content : new ≡ take at old ++ (bs ++ drop next old)
   pub ends : next ≡ at + length bs
   pub same : length new ≡ length old
+
+-- What is answered of so many records and a list of so many bytes.
+unfoldable pub roomFor : ℕ → ℕ → Listing
+roomFor count bytes = cond (leb count (bytes / recordSize)) (Listing.Written count) (Listing.NoRoom count)
+
+-- A table has a place for each of n node instances.
+unfoldable pub holds : ℕ → List ℕ → Bool
+holds n table = leb n (length table)
+
+-- What is answered of tables and a list of so many bytes.
+unfoldable pub listingOf : List ℕ → List ℕ → List ℕ → List ℕ → List ℕ → ℕ → Listing
+listingOf ids numbers marks act ch bytes =
+    cond (holds (sizeOf act) marks && (holds (sizeOf act) ids && holds (sizeOf act) numbers))
+    (roomFor (length (rowsTo (tableGraph act ch) marks (sizeOf act))) bytes)
+    Listing.Unfit
+
+-- The list after that: the records and then its own bytes, or its own bytes.
+abbrev pub listAfter : Listing → List ℕ → List ℕ → List ℕ
+listAfter (Listing.Written count) records list = records ++ drop (length records) list
+listAfter (Listing.NoRoom count) records list = list
+listAfter Listing.Unfit records list = list

@@ -9,6 +9,13 @@ pub struct Isolation {
     pub steps: usize,
 }
 
+// How many records were written; or how many there is no room for; or that a table has no place for some node instance.
+pub enum Listing {
+    Written(usize),
+    NoRoom(usize),
+    Unfit,
+}
+
 // The answer of isolation.
 pub enum Isolated {
     Done(Isolation),

@@ -1,11 +1,12 @@
 // The list: the listed bits are counted first, and their records written only where there is room for all.
+use crate::Listing;
 ghost use mathlib.Core.Path.{_≡_};
 ghost use mathlib.Core.List.{[], _∷_, _++_};
 ghost use Prim.Native.Nat.{_+_, _*_, _<_, _≤_};
 ghost use lib.ListN.{length, take, drop};
 ghost use Rattle.graph.specs.Chains.{kept};
 ghost use Rattle.walk.specs.TableGraph.{sizeOf, tableGraph};
-ghost use Rattle.isolation.specs.Rows.{shown, bitsTo, rowLinks, rowsTo, bitRecords, rowRecords, rowsRecords, Wrote};
+ghost use Rattle.isolation.specs.Rows.{shown, bitsTo, rowLinks, rowsTo, bitRecords, rowRecords, rowsRecords, Wrote, listingOf, listAfter};
 ghost use Rattle.isolation.specs.Records.{recordOf};
 
 // Whether bit b of the instance i is active and has no child.
@@ -189,4 +190,35 @@ fn put_rows(
         i += 1;
     }
     place
+}
+
+// The records of all done instances, where there is room for all of them; otherwise the list keeps its bytes.
+pub fn write_list(
+    list: &mut [u8],
+    attention: u8,
+    ids: &[u16],
+    numbers: &[u8],
+    marks: &[u8],
+    active: &[u64],
+    child: &[u16],
+) -> Listing
+    ensures { λ r. ⌜ r ≡ listingOf (now (ids .entry)) (now (numbers .entry)) (now (marks .entry)) (now (active .entry)) (now (child .entry)) (length (now (list .entry))) ⌝ }
+    ensures { λ r. ⌜ now (list .exit) ≡ listAfter r (rowsRecords attention (now (ids .entry)) (now (numbers .entry)) (tableGraph (now (active .entry)) (now (child .entry))) (now (marks .entry)) (sizeOf (now (active .entry)))) (now (list .entry)) ⌝ }
+{
+    let n = walk::size(active);
+    if marks.len() < n {
+        return Listing::Unfit;
+    }
+    if ids.len() < n {
+        return Listing::Unfit;
+    }
+    if numbers.len() < n {
+        return Listing::Unfit;
+    }
+    let count = count_rows(marks, active, child, n);
+    if list.len() / 8 < count {
+        return Listing::NoRoom(count);
+    }
+    put_rows(list, attention, ids, numbers, marks, active, child, n);
+    Listing::Written(count)
 }
