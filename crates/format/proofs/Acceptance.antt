@@ -1,31 +1,26 @@
 -- Acceptance, said a second way: a file is accepted with a tree exactly when it is the tree's encoding and the tree meets the rules.
-use Prim.Native.Nat.{ℕ, zero, suc, _+_, _≤_, _<_}
+use Prim.Native.Nat.{ℕ, _+_, _≤_}
 use mathlib.Core.Bool.{true}
 use mathlib.Core.List.{List, [], _∷_, _++_}
 use mathlib.Core.Logic.{_↔_}
 use mathlib.Core.Path.{_≡_, refl, sym, _∙_, ap, subst}
 use native.Mathlib.Omega.{arith}
-use lib.Dec.{leb, lit<}
-use lib.ListN.{length, take, drop, getD, length-append, length-take}
-use lib.Seq.{take-all, take-length, take-append-seam}
+use lib.ListN.{length, length-take}
+use lib.Seq.{take-all, take-length}
 use borrow.Author.Tests.{leb-true, le-leb}
-use Rattle.numbers.specs.BigEndian.{bytesOf}
-use Rattle.numbers.proofs.BigEndianLaws.{Bytes, bytes-bytes}
-use Rattle.format.specs.Limits.{fileLimit, chipdata, regs, node, root}
-use Rattle.format.specs.Fields.{addressSize}
-use Rattle.format.specs.Parsed.{Parsed, done, refused}
-use Rattle.format.specs.Tree.{Expr, Exprs, reading, constant, all, any, inverse, left, right, none, more, Chip}
+use Rattle.numbers.proofs.BigEndianLaws.{Bytes}
+use Rattle.format.specs.Limits.{fileLimit}
+use Rattle.format.specs.Parsed.{done}
+use Rattle.format.specs.Tree.{Chip}
 use Rattle.format.specs.FileLayout.{fileAt}
-use Rattle.format.specs.Lookup.{gathered}
 use Rattle.format.specs.References.{Fault, referenceFaults}
 use Rattle.format.specs.Cycles.{cycleFaults}
 use Rattle.format.specs.Verdict.{judged, verdict}
-use Rattle.format.specs.Encoding.{operandCount, encodeExpr, encodeExprs, encodeRegisterInstance, encodeRegister, encodeCapture, encodeRule, encodeChild, encodeNodeInstance, encodeNode, encodeRoot, encodeStart, encodeRegisters, encodeNodes, encodeRoots, encode}
+use Rattle.format.specs.Encoding.{encode}
 use Rattle.format.specs.Placing.{Placed}
 use Rattle.format.specs.Rules.{Meets}
 use Rattle.format.proofs.ParsedLaws.{never, then-out, then-in, require-out, require-in}
-use Rattle.format.proofs.Spelling.{Spell}
-use Rattle.format.proofs.FileAccepted.{FileFine, file-out, file-in}
+use Rattle.format.proofs.FileAccepted.{file-out, file-in}
 use Rattle.format.proofs.FaultsLaws.{append-none, none-append, references-out, references-in, cycles-out, cycles-in}
 use Rattle.format.proofs.Grouping.{layout-out, layout-in}
 

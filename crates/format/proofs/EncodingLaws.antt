@@ -1,23 +1,22 @@
 -- What follows for encodings: they are bytes, they are accepted, one encoding has one tree, and no part of an encoding is one.
-use Prim.Native.Nat.{ℕ, zero, suc, _+_, _/_, _^_, _≤_, _<_}
-use mathlib.Core.Bool.{Bool, true, false}
+use Prim.Native.Nat.{ℕ, zero, suc, _+_, _/_, _^_, _<_}
+use mathlib.Core.Bool.{true}
 use mathlib.Core.List.{List, [], _∷_, _++_}
-use mathlib.Core.Path.{_≡_, refl, sym, _∙_, ap, subst}
+use mathlib.Core.Path.{_≡_, refl, sym, _∙_, ap}
 use native.Mathlib.Nat.{mod-lt}
 use native.Mathlib.Omega.{arith}
 use borrow.Author.Tests.{ltb-true}
 use lib.Dec.{lit<, ltb}
 use lib.Pow.{areBytes}
-use lib.ListN.{length, take, drop, getD, length-append}
+use lib.ListN.{length, take, length-append}
 use lib.Seq.{take-append-seam, take-length}
 use Rattle.numbers.specs.BigEndian.{bytesOf}
 use Rattle.numbers.proofs.BigEndianLaws.{Bytes}
 use Rattle.numbers.proofs.Bools.{and-left, and-right}
 use Rattle.format.specs.Limits.{chipdata, regs, node, root}
 use Rattle.format.specs.Fields.{addressSize}
-use Rattle.format.specs.Parsed.{Parsed, done}
-use Rattle.format.specs.Tree.{Expr, Exprs, reading, constant, all, any, inverse, left, right, none, more, RegisterInstance, Register, NodeInstance, Node, Rule, Root, Chip}
-use Rattle.format.specs.FileLayout.{fileAt}
+use Rattle.format.specs.Parsed.{done}
+use Rattle.format.specs.Tree.{Expr, Exprs, reading, constant, all, any, inverse, left, right, none, more, Register, NodeInstance, Node, Root, Chip}
 use Rattle.format.specs.Lookup.{gathered}
 use Rattle.format.specs.Verdict.{verdict}
 use Rattle.format.specs.Encoding.{operandCount, encodeExpr, encodeExprs, encodeRegisterInstance, encodeRegister, encodeCapture, encodeRule, encodeChild, encodeNodeInstance, encodeNode, encodeRoot, encodeStart, encodeRegisters, encodeNodes, encodeRoots, encode}

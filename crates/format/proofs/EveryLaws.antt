@@ -1,12 +1,12 @@
 -- The laws of `Every` and `Distinct`.
 use Prim.Native.Nat.{ℕ, _+_}
-use mathlib.Core.Bool.{Bool, true, false, not, _&&_, _||_}
+use mathlib.Core.Bool.{Bool, true, false, _||_}
 use mathlib.Core.List.{List, [], _∷_, _++_, map}
-use mathlib.Core.Logic.{_⊎_, inl, inr, ⊎-elim}
-use mathlib.Core.Path.{_≡_, refl, sym, _∙_, ap}
+use mathlib.Core.Logic.{_⊎_, ⊎-elim}
+use mathlib.Core.Path.{_≡_, refl, sym}
 use lib.Dec.{eqb}
 use borrow.Author.Tests.{eqb-false, ne-eqb}
-use Rattle.numbers.proofs.Bools.{either, clash, or-left, or-right}
+use Rattle.numbers.proofs.Bools.{either, clash}
 use Rattle.format.specs.Fields.{member, fresh}
 use Rattle.format.specs.Lookup.{gathered}
 use Rattle.format.specs.Rules.{Every, Distinct}

@@ -1,15 +1,15 @@
 -- An expression is read exactly where its encoding stands and it meets the rules.
-use Prim.Native.Nat.{ℕ, zero, suc, _+_, _^_, _≤_, _<_, max}
+use Prim.Native.Nat.{ℕ, zero, suc, _+_, _≤_, _<_}
 use mathlib.Core.Bool.{Bool, true, false, cond}
 use mathlib.Core.List.{List, [], _∷_, _++_}
 use mathlib.Core.Path.{_≡_, refl, sym, _∙_, ap, subst}
 use native.Mathlib.Omega.{arith}
-use lib.Dec.{eqb, leb, lit<}
+use lib.Dec.{eqb, lit<}
 use lib.ListN.{length}
 use borrow.Author.Tests.{eqb-true, leb-true, le-leb}
 use Rattle.numbers.specs.BigEndian.{bytesOf}
 use Rattle.numbers.proofs.BigEndianLaws.{Bytes, length-bytes}
-use Rattle.format.specs.Parsed.{Parsed, done, refused, andThen, making, requiring, rowAt}
+use Rattle.format.specs.Parsed.{done, rowAt}
 use Rattle.format.specs.Fields.{fieldAt}
 use Rattle.format.specs.Lookup.{gathered}
 use Rattle.format.specs.Tree.{Expr, Exprs, reading, constant, all, any, inverse, left, right, none, more, gather}

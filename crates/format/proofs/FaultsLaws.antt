@@ -1,20 +1,19 @@
 -- There is no fault exactly when what is named is there, what rules name fits, and no child entries make a cycle.
 use Prim.Native.Nat.{ℕ, zero, suc, _+_, _-_, _≤_, _<_}
-use mathlib.Core.Bool.{Bool, true, false, not, cond, _&&_}
+use mathlib.Core.Bool.{Bool, true, false, not, _&&_}
 use mathlib.Core.List.{List, [], _∷_, _++_}
 use mathlib.Core.Logic.{_⊎_, inl, inr, ⊎-elim, _↔_}
-use mathlib.Core.Path.{_≡_, refl, sym, _∙_, ap, subst}
+use mathlib.Core.Path.{_≡_, refl, subst}
 use native.Mathlib.Omega.{arith}
-use native.Mathlib.Nat.{zero-add}
-use lib.ListN.{length, take, drop, length-take, length-drop, drop-of-length-le}
+use lib.ListN.{length, drop-of-length-le}
 use lib.Dec.{ltb}
 use borrow.Author.Tests.{ltb-true, ltb-false, not-true}
-use Rattle.numbers.proofs.Bools.{either, clash, same?}
+use Rattle.numbers.proofs.Bools.{either, clash}
 use Rattle.graph.specs.Paths.{Path, one, more, Inside, onCycle}
 use Rattle.graph.proofs.PathsLaws.{cycle-law}
-use Rattle.format.specs.Tree.{Capture, Rule, Child, Root, Chip}
-use Rattle.format.specs.Lookup.{some, at, gathered, RegisterEntry, registerEntries, registerNamed, NodeEntry, nodeEntries, nodeNamed}
-use Rattle.format.specs.References.{Named, namedBy, Fault, unless, fits, hasRegister, hasNode, captureFaults, namedFaults, ruleFaults, childFaults, instanceFaults, hasRule, rootFaults, referenceFaults}
+use Rattle.format.specs.Tree.{Chip}
+use Rattle.format.specs.Lookup.{some, at, gathered, registerEntries, registerNamed, NodeEntry, nodeEntries}
+use Rattle.format.specs.References.{Named, namedBy, unless, fits, hasRegister, hasNode, captureFaults, namedFaults, ruleFaults, childFaults, instanceFaults, rootFaults, referenceFaults}
 use Rattle.format.specs.Cycles.{leads, childEdge, OnCycle, cyclesFrom, cycleFaults}
 use Rattle.format.specs.Rules.{Every, allCaptures, allRules, allChildren, NamesPresent, RegistersFit}
 use Rattle.format.proofs.EveryLaws.{every-map, every-both, every-gathered-out, every-gathered-in}

@@ -1,28 +1,28 @@
 -- A file is read to a tree exactly when it starts with the tree's encoding and the tree meets the rules of the layout.
-use Prim.Native.Nat.{ℕ, zero, suc, _+_, _^_, _≤_, _<_}
-use mathlib.Core.Bool.{Bool, true, false}
-use mathlib.Core.List.{List, [], _∷_, _++_, map}
-use mathlib.Core.Path.{_≡_, refl, sym, _∙_, ap, subst}
+use Prim.Native.Nat.{ℕ, _+_, _^_, _<_}
+use mathlib.Core.Bool.{true}
+use mathlib.Core.List.{List, [], _++_, map}
+use mathlib.Core.Path.{_≡_, refl, sym, ap, subst}
 use native.Mathlib.Omega.{arith}
-use lib.Dec.{eqb, lit<}
-use lib.ListN.{length, length-append}
+use lib.Dec.{lit<}
+use lib.ListN.{length}
 use borrow.Author.Tests.{eqb-true}
 use Rattle.numbers.specs.BigEndian.{bytesOf}
-use Rattle.numbers.proofs.BigEndianLaws.{Bytes, length-bytes}
+use Rattle.numbers.proofs.BigEndianLaws.{Bytes}
 use Rattle.format.specs.Limits.{chipdata, root}
-use Rattle.format.specs.Parsed.{Parsed, done, refused, andThen, making, requiring, rowAt}
-use Rattle.format.specs.Fields.{fieldAt, keywordAt, knownAttention, attentionAt, fresh}
-use Rattle.format.specs.Lookup.{gathered}
+use Rattle.format.specs.Parsed.{done}
+use Rattle.format.specs.Fields.{knownAttention, attentionAt}
 use Rattle.format.specs.Tree.{Root, Chip}
 use Rattle.format.specs.FileLayout.{startAt, rootAt, rootsAt, fileAt}
 use Rattle.format.specs.Encoding.{encodeRoot, encodeStart, encodeRegisters, encodeNodes, encodeRoots, encode}
-use Rattle.format.specs.Placing.{PlacedRow, PlacedRoot, Placed}
+use Rattle.format.specs.Placing.{PlacedRow, PlacedRoot}
 use Rattle.format.specs.Rules.{Every, Distinct}
 use Rattle.format.proofs.ParsedLaws.{then-out, then-in, making-out, making-in, requiring-out, requiring-in}
 use Rattle.format.proofs.Spelling.{Spell, spell-join, spell-split, field-out, field-in, keyword-out, keyword-in, Row, Reads, section-out, section-in}
 use Rattle.format.proofs.RowLaws.{Among, among-out, among-in}
 use Rattle.format.proofs.RegistersAccepted.{RegistersFine, registers-out, registers-in}
-use Rattle.format.proofs.NodesAccepted.{NodesFine, nodes-out, nodes-in, attention-small}
+use Rattle.format.proofs.NodesAccepted.{NodesFine, nodes-out, nodes-in}
+use Rattle.format.proofs.NodePartsAccepted.{attention-small}
 
 -- What reading needs of a root alone, and among the others.
 pub record RootAlone (t : Root) : Type 0 where

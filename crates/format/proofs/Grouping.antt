@@ -1,24 +1,18 @@
 -- What reading needs of a file, element by element, is what the rules say, number by number.
-use Prim.Native.Nat.{ℕ, zero, suc, _+_, _^_, _≤_, _<_}
-use mathlib.Core.Bool.{true}
-use mathlib.Core.List.{List, [], _∷_, _++_, map}
-use mathlib.Core.Path.{_≡_, refl, sym, _∙_, ap}
-use native.Mathlib.Omega.{arith}
+use Prim.Native.Nat.{_<_}
+use mathlib.Core.List.{List, [], _∷_}
+use mathlib.Core.Path.{_≡_, refl}
 use lib.ListN.{length, length-append, length-map}
 use Rattle.format.specs.Tree.{Register, Node, Chip}
-use Rattle.format.specs.Limits.{registerLimit, nodeLimit}
-use Rattle.format.specs.Fields.{addressSize}
 use Rattle.format.specs.Lookup.{gathered, RegisterEntry, entriesOf, registerEntries, NodeEntry, nodeEntriesOf, nodeEntries}
 use Rattle.format.specs.RegisterLayout.{registerTotal}
 use Rattle.format.specs.NodeLayout.{nodeTotal}
 use Rattle.format.specs.Placing.{Placed}
 use Rattle.format.specs.Rules.{Every, allCaptures, allRules, allChildren, FieldsFit, CountsNotZero, ValuesKnown, NamesUnique, WithinLimits, ExpressionsSound}
 use Rattle.format.proofs.EveryLaws.{every-map, every-both, every-gathered-out, every-gathered-in, every-list-out, every-list-in}
-use Rattle.format.proofs.RegistersAccepted.{RegisterAlone, RegistersFine}
-use Rattle.format.proofs.NodesAccepted.{CaptureAlone, RuleAlone, ChildAlone, NodeAlone, NodesFine}
-use Rattle.format.proofs.RegistersAccepted as registers
-use Rattle.format.proofs.NodesAccepted as nodes
-use Rattle.format.proofs.FileAccepted.{RootAlone, RootsFine, FileFine}
+use Rattle.format.proofs.NodePartsAccepted.{CaptureAlone, RuleAlone, ChildAlone}
+use Rattle.format.proofs.NodeInstancesAccepted as nodes
+use Rattle.format.proofs.FileAccepted.{FileFine}
 
 -- The rules of the layout.
 pub record LayoutMeets (c : Chip) : Type 0 where

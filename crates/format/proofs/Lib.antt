@@ -5,6 +5,8 @@ pub mod EveryLaws
 pub mod RowLaws
 pub mod ExpressionAccepted
 pub mod RegistersAccepted
+pub mod NodePartsAccepted
+pub mod NodeInstancesAccepted
 pub mod NodesAccepted
 pub mod FileAccepted
 pub mod FaultsLaws

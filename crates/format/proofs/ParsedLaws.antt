@@ -1,7 +1,6 @@
 -- A reading that is done: what its parts did, and back.
-use Prim.Native.Nat.{ℕ, zero, suc}
+use Prim.Native.Nat.{ℕ}
 use mathlib.Core.Bool.{Bool, true, false}
-use mathlib.Core.List.{List, [], _∷_}
 use mathlib.Core.Path.{_≡_, refl, sym, _∙_, ap}
 use native.Mathlib.Omega.{arith}
 use Rattle.format.specs.Parsed.{Parsed, done, refused, andThen, making, require, requiring}

@@ -1,6 +1,5 @@
 -- The places of an accepted file: reading moves forward within the file, and reading at a rule's place gives its expression again.
-use Prim.Native.Nat.{ℕ, zero, suc, _+_, _≤_, _<_}
-use mathlib.Core.Bool.{true}
+use Prim.Native.Nat.{ℕ, _+_, _≤_}
 use mathlib.Core.List.{List, [], _∷_, _++_}
 use mathlib.Core.Path.{_≡_, refl, sym, _∙_, ap, subst}
 use native.Mathlib.Omega.{arith}
@@ -9,20 +8,20 @@ use lib.Seq.{take-length}
 use Rattle.numbers.specs.BigEndian.{bytesOf}
 use Rattle.numbers.proofs.BigEndianLaws.{Bytes, length-bytes}
 use Rattle.format.specs.Limits.{levels}
-use Rattle.format.specs.Parsed.{Parsed, done}
+use Rattle.format.specs.Parsed.{done}
 use Rattle.format.specs.Fields.{addressSize}
-use Rattle.format.specs.Lookup.{gathered, RegisterEntry, entriesOf, registerEntries, NodeEntry, nodeEntriesOf, nodeEntries}
-use Rattle.format.specs.Tree.{Expr, RegisterInstance, Register, Rule, NodeInstance, Node, Chip}
+use Rattle.format.specs.Lookup.{gathered, entriesOf, registerEntries, nodeEntriesOf, nodeEntries}
+use Rattle.format.specs.Tree.{RegisterInstance, Register, Rule, NodeInstance, Node, Chip}
 use Rattle.format.specs.ExpressionLayout.{exprAt}
 use Rattle.format.specs.Verdict.{verdict}
-use Rattle.format.specs.Encoding.{encodeExpr, encodeRegisterInstance, encodeRegister, encodeCapture, encodeRule, encodeChild, encodeNodeInstance, encodeNode, encodeStart, encodeRegisters, encodeNodes, encode}
+use Rattle.format.specs.Encoding.{encodeExpr, encodeRegisterInstance, encodeRegister, encodeCapture, encodeRule, encodeNodeInstance, encodeNode, encodeStart, encodeRegisters, encodeNodes, encode}
 use Rattle.format.specs.Limits.{regs, node}
 use Rattle.format.specs.Placing.{PlacedRow, PlacedExpr, PlacedRegisterInstance, PlacedRegister, PlacedRule, PlacedNodeInstance, PlacedNode, Placed}
 use Rattle.format.specs.Rules.{Every, allRules, Meets}
 use Rattle.format.proofs.EveryLaws.{every-map, every-both, every-gathered-in, every-list-in}
-use Rattle.format.proofs.Spelling.{Spell, spell-split, spell-within, Reads}
+use Rattle.format.proofs.Spelling.{Spell, spell-split}
 use Rattle.format.proofs.ExpressionAccepted.{ExprFine, expr-reads}
-use Rattle.format.proofs.Acceptance.{acceptance, read-to-end}
+use Rattle.format.proofs.Acceptance.{acceptance}
 
 -- What is read is spelled from its place to the next.
 pub forward : {s : List ℕ} {at m : ℕ} {bs : List ℕ} → Spell s at m bs → at ≤ m

@@ -1,21 +1,17 @@
 -- In an accepted file a name means one position: register instances and node instances are unique.
-use Prim.Native.Nat.{ℕ, zero, suc, _+_, _≤_, _<_}
-use mathlib.Core.Bool.{Bool, true, false, cond, _&&_, _||_}
+use Prim.Native.Nat.{ℕ, zero, suc, _+_}
+use mathlib.Core.Bool.{Bool, true, false, _&&_}
 use mathlib.Core.List.{List, [], _∷_, _++_, map}
 use mathlib.Core.Path.{_≡_, refl, sym, _∙_, ap, subst}
 use native.Mathlib.Omega.{arith}
 use lib.Dec.{eqb}
-use lib.ListN.{length, take, drop}
-use borrow.Author.Tests.{eqb-true, eq-eqb}
-use Rattle.numbers.proofs.BigEndianLaws.{Bytes}
-use Rattle.numbers.proofs.Bools.{and-left, and-right, and-both, clash}
+use borrow.Author.Tests.{eqb-true}
+use Rattle.numbers.proofs.Bools.{and-left, and-right}
 use Rattle.format.specs.Fields.{member}
-use Rattle.format.specs.Parsed.{done}
 use Rattle.format.specs.Lookup.{position, at, gathered, RegisterEntry, entriesOf, registerEntries, registerNamed, NodeEntry, nodeEntriesOf, nodeEntries, nodeNamed, registerPosition, nodePosition}
-use Rattle.format.specs.Rules.{Every, Distinct, NamesUnique, Meets}
-use Rattle.format.specs.Tree.{RegisterInstance, Register, NodeInstance, Node, Chip}
-use Rattle.format.specs.Verdict.{verdict}
-use Rattle.format.proofs.EveryLaws.{or-false-left, or-false-right, every-map, every-append-in, every-list-in, every-gathered-in}
+use Rattle.format.specs.Rules.{Every, Distinct, NamesUnique}
+use Rattle.format.specs.Tree.{Chip}
+use Rattle.format.proofs.EveryLaws.{or-false-left, or-false-right, every-append-in, every-list-in, every-gathered-in}
 
 -- What stands at a position.
 

@@ -1,5 +1,5 @@
 -- Registers are read exactly where their encoding stands and they meet the rules.
-use Prim.Native.Nat.{ℕ, zero, suc, _+_, _^_, _≤_, _<_}
+use Prim.Native.Nat.{ℕ, _+_, _^_, _≤_, _<_}
 use mathlib.Core.Bool.{Bool, true, false, cond}
 use mathlib.Core.List.{List, [], _∷_, _++_, map}
 use mathlib.Core.Path.{_≡_, refl, sym, _∙_, ap, subst}
@@ -12,16 +12,15 @@ use Rattle.numbers.proofs.Bools.{or-cases}
 use Rattle.numbers.specs.BigEndian.{bytesOf}
 use Rattle.numbers.proofs.BigEndianLaws.{Bytes, length-bytes}
 use Rattle.format.specs.Limits.{registerLimit, regs}
-use Rattle.format.specs.Parsed.{Parsed, done, refused, andThen, making, requiring, rowAt}
-use Rattle.format.specs.Fields.{fieldAt, countAt, knownType, typeAt, addressSize, knownFlags, flagsAt, fresh}
-use Rattle.format.specs.Lookup.{gathered}
+use Rattle.format.specs.Parsed.{done}
+use Rattle.format.specs.Fields.{countAt, knownType, typeAt, addressSize, knownFlags, flagsAt, fresh}
 use Rattle.format.specs.Tree.{RegisterInstance, Register}
 use Rattle.format.specs.RegisterLayout.{registerTotal, registerInstanceAt, RegisterHead, registerHeadAt, registerAt, registersAt}
 use Rattle.format.specs.Encoding.{encodeRegisterInstance, encodeRegister, encodeRegisters}
 use Rattle.format.specs.Placing.{PlacedRow, PlacedRegisterInstance, PlacedRegister}
 use Rattle.format.specs.Rules.{Every, Distinct}
 use Rattle.format.proofs.ParsedLaws.{then-out, then-in, making-out, making-in, requiring-out, requiring-in}
-use Rattle.format.proofs.Spelling.{Spell, spell-join, spell-split, field-out, field-in, keyword-out, keyword-in, Row, Reads, row-out, row-in, section-out, section-in}
+use Rattle.format.proofs.Spelling.{Spell, spell-join, spell-split, field-out, field-in, Row, Reads, row-out, row-in, section-out, section-in}
 use Rattle.format.proofs.RowLaws.{Among, among-out, among-in, row-map, row-both, limit-out, limit-in, total-out, total-in}
 
 size-positive : (t : ℕ) → 0 < addressSize t

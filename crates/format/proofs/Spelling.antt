@@ -1,24 +1,22 @@
 -- Bytes that stand at a place of a file, and the readings that are done with exactly these bytes.
-use Prim.Native.Nat.{ℕ, zero, suc, _+_, _-_, _^_, _≤_, _<_, min}
-use mathlib.Core.Bool.{Bool, true, false}
+use Prim.Native.Nat.{ℕ, zero, suc, _+_, _-_, _^_, _≤_, _<_}
+use mathlib.Core.Bool.{true}
 use mathlib.Core.List.{List, [], _∷_, _++_}
-use mathlib.Core.Logic.{_↔_}
 use mathlib.Core.Path.{_≡_, refl, sym, _∙_, ap, subst}
-use native.Mathlib.Nat.{add-zero, add-assoc}
 use native.Mathlib.Omega.{arith}
 use lib.Dec.{eqb}
 use lib.ListN.{length, take, drop, length-append, length-take, length-drop}
-use lib.Seq.{take-add, drop-drop, take-at, drop-at, length-take-le}
+use lib.Seq.{take-add, drop-drop, take-at, drop-at}
 use borrow.Author.Tests.{leb-true, eqb-true, eq-eqb, ltb-true, lt-ltb}
 use Rattle.numbers.specs.BigEndian.{bigEndian, bytesOf}
 use Rattle.numbers.specs.Field.{present, field}
 use Rattle.numbers.proofs.BigEndianLaws.{Bytes, bytes-take, bytes-drop, length-bytes, read-written, written-read}
 use Rattle.numbers.proofs.FieldLaws.{present-yes, field-lt}
 use Rattle.numbers.proofs.Bools.{clash, and-left, and-right, and-both}
-use Rattle.format.specs.Parsed.{Parsed, done, refused, andThen, making, require, requiring, rowAt}
+use Rattle.format.specs.Parsed.{Parsed, done, andThen, rowAt}
 use Rattle.format.specs.Fields.{fieldAt, keywordAt, countAt, same}
 use Rattle.format.specs.Lookup.{gathered}
-use Rattle.format.proofs.ParsedLaws.{never, then-out, then-in, making-out, making-in, require-out, require-in, requiring-out, requiring-in}
+use Rattle.format.proofs.ParsedLaws.{then-out, then-in, making-out, making-in, require-out, require-in, requiring-out, requiring-in}
 
 -- The bytes bs stand in s from a place to a place.
 pub record Spell (s : List ℕ) (at next : ℕ) (bs : List ℕ) : Type 0 where

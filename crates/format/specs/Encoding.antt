@@ -1,6 +1,6 @@
 -- A tree as bytes: source document 001, its tables read as a printer. Places are not written.
-use Prim.Native.Nat.{ℕ, zero, suc}
-use mathlib.Core.List.{List, [], _∷_, _++_}
+use Prim.Native.Nat.{ℕ, suc}
+use mathlib.Core.List.{List, [], _++_}
 use lib.ListN.{length}
 use Rattle.numbers.specs.BigEndian.{bytesOf}
 use Rattle.format.specs.Limits.{chipdata, regs, node, root}

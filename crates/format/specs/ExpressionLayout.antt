@@ -3,7 +3,7 @@ use Prim.Native.Nat.{ℕ, zero, suc}
 use mathlib.Core.Bool.{cond}
 use mathlib.Core.List.{List, []}
 use lib.Dec.{leb, eqb}
-use Rattle.format.specs.Parsed.{Parsed, done, refused, andThen, making, requiring, rowAt}
+use Rattle.format.specs.Parsed.{Parsed, refused, andThen, making, requiring, rowAt}
 use Rattle.format.specs.Fields.{fieldAt}
 use Rattle.format.specs.Tree.{Expr, reading, constant, all, any, inverse, left, right, gather}
 

@@ -6,7 +6,7 @@ use lib.ListN.{length, take, drop}
 use lib.Dec.{leb, ltb, eqb}
 use Rattle.numbers.specs.Bits.{bitOf}
 use Rattle.numbers.specs.Field.{present, field}
-use Rattle.format.specs.Parsed.{Parsed, done, refused, require, requiring}
+use Rattle.format.specs.Parsed.{Parsed, done, require, requiring}
 
 -- The field of n bytes at a place; 2 where it is not wholly there.
 unfoldable pub fieldAt : List ℕ → ℕ → ℕ → Parsed ℕ

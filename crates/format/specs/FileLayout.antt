@@ -4,7 +4,7 @@ use mathlib.Core.Bool.{Bool}
 use mathlib.Core.List.{List, [], map}
 use lib.Dec.{eqb}
 use Rattle.format.specs.Limits.{chipdata, root}
-use Rattle.format.specs.Parsed.{Parsed, done, andThen, making, requiring, rowAt}
+use Rattle.format.specs.Parsed.{Parsed, andThen, making, requiring, rowAt}
 use Rattle.format.specs.Fields.{fieldAt, keywordAt, countAt, attentionAt, fresh}
 use Rattle.format.specs.RegisterLayout.{registersAt}
 use Rattle.format.specs.NodeLayout.{nodesAt}

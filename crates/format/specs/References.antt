@@ -5,7 +5,7 @@ use mathlib.Core.List.{List, [], _∷_, _++_}
 use lib.Dec.{eqb}
 use Rattle.format.specs.Fields.{readable}
 use Rattle.format.specs.Lookup.{some, gathered, RegisterEntry, registerEntries, registerNamed, NodeEntry, nodeEntries, nodeNamed}
-use Rattle.format.specs.Tree.{Expr, Exprs, reading, constant, all, any, inverse, left, right, none, more, Capture, Rule, Child, NodeInstance, Node, Root, Chip}
+use Rattle.format.specs.Tree.{Expr, Exprs, reading, constant, all, any, inverse, left, right, none, more, Capture, Rule, Child, NodeInstance, Root, Chip}
 
 -- A register instance that an expression names, and the place of that expression's type byte.
 pub record Named : Type 0 where

@@ -1,11 +1,11 @@
 -- The layout of the registers (source document 001, section 2).
-use Prim.Native.Nat.{ℕ, zero, suc, _+_}
+use Prim.Native.Nat.{ℕ, _+_}
 use mathlib.Core.Bool.{Bool}
 use mathlib.Core.List.{List, [], _∷_, map}
 use lib.ListN.{length}
 use lib.Dec.{ltb}
 use Rattle.format.specs.Limits.{registerLimit, regs}
-use Rattle.format.specs.Parsed.{Parsed, done, andThen, making, requiring, rowAt}
+use Rattle.format.specs.Parsed.{Parsed, andThen, making, requiring, rowAt}
 use Rattle.format.specs.Fields.{fieldAt, keywordAt, countAt, typeAt, flagsAt, addressSize, fresh}
 use Rattle.format.specs.Tree.{RegisterInstance, Register}
 

@@ -1,13 +1,13 @@
 -- The rules of document 01 as propositions on trees, one for each number of its table. (2, 3, 4 and 11 say that the file is an encoding.)
-use Prim.Native.Nat.{ℕ, _+_, _^_, _≤_, _<_, max, suc}
+use Prim.Native.Nat.{ℕ, _^_, _≤_, _<_, max, suc}
 use mathlib.Core.Bool.{true, false, _&&_}
 use mathlib.Core.List.{List, [], _∷_, map}
 use mathlib.Core.Path.{_≡_}
 use lib.ListN.{length}
 use Rattle.format.specs.Limits.{fileLimit, registerLimit, nodeLimit, levels}
 use Rattle.format.specs.Fields.{knownType, addressSize, knownFlags, knownAttention, member}
-use Rattle.format.specs.Lookup.{some, gathered, RegisterEntry, registerEntries, registerNamed, NodeEntry, nodeEntries, nodeNamed}
-use Rattle.format.specs.References.{Named, namedBy, fits, hasRegister, hasNode, hasRule}
+use Rattle.format.specs.Lookup.{some, gathered, registerEntries, registerNamed, nodeEntries, nodeNamed}
+use Rattle.format.specs.References.{namedBy, fits, hasRegister, hasNode, hasRule}
 use Rattle.format.specs.Cycles.{OnCycle}
 use Rattle.format.specs.Encoding.{encode, operandCount}
 use Rattle.format.specs.Tree.{Expr, Exprs, reading, constant, all, any, inverse, left, right, none, more, Capture, Rule, Child, Chip}

@@ -1,6 +1,6 @@
 -- What is computed of chains is what they are.
-use mathlib.Core.Path.{_≡_, refl, sym, _∙_, subst, ap}
-use mathlib.Core.Bool.{Bool, true, false, _&&_}
+use mathlib.Core.Path.{_≡_, refl, sym, subst, ap}
+use mathlib.Core.Bool.{Bool, true}
 use mathlib.Core.List.{List, [], _∷_, _++_}
 use mathlib.Core.Logic.{_⊎_, inl, inr, ⊎-elim, _↔_}
 use mathlib.Core.Option.{Option, none, some}
@@ -9,7 +9,7 @@ use native.Mathlib.Omega.{arith}
 use lib.Dec.{eqb}
 use borrow.Author.Tests.{eqb-true, eq-eqb}
 use Rattle.numbers.proofs.Bools.{clash, and-left, and-right, and-both}
-use Rattle.graph.specs.Paths.{Reached, here, next, Inside, reached}
+use Rattle.graph.specs.Paths.{Reached, here, next, Inside}
 use Rattle.graph.specs.Chains.{Graph, Sound, Link, Chain, last, Through, first, later, ChainReaches, ReachedByChains, Listed, names, bare, linked, reachedFrom, listed}
 use Rattle.graph.specs.Chains as chains
 use Rattle.graph.proofs.BelowLaws.{any-in, any-out}

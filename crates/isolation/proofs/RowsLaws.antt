@@ -1,15 +1,14 @@
 -- The laws of the listing, node instance after node instance and bit after bit.
 use mathlib.Core.Path.{_≡_, refl, sym, ap, _∙_}
-use mathlib.Core.Bool.{Bool, true, false, cond, _&&_}
+use mathlib.Core.Bool.{Bool, true, false, cond}
 use mathlib.Core.List.{List, [], _∷_, _++_, map, append-assoc, append-nil}
 use mathlib.Core.Option.{Option, none, some}
 use Prim.Native.Nat.{ℕ, zero, suc, _+_, _*_, _/_, _%_, _≤_, _<_}
 use native.Mathlib.Omega.{arith}
-use native.Mathlib.Nat.{add-zero}
 use native.Mathlib.Numerals.{add-one}
-use lib.Dec.{eqb, leb, ltb}
+use lib.Dec.{leb, ltb}
 use lib.ListN.{length, getD, set, take, drop, length-append, length-map}
-use lib.Seq.{sets, sets-eq}
+use lib.Seq.{sets-eq}
 use borrow.Author.Tests.{eq-eqb, ne-eqb, lt-ltb, le-leb, lt-leb}
 use Rattle.numbers.specs.Bits.{bitOf}
 use Rattle.numbers.specs.BigEndian.{bytesOf}
@@ -17,7 +16,7 @@ use Rattle.graph.specs.Chains.{Graph, Link, bare, below, kept}
 use Rattle.format.specs.Lookup.{gathered}
 use Rattle.walk.specs.TableGraph.{sizeOf, childAt, tableGraph}
 use Rattle.walk.specs.Fold.{orElse}
-use Rattle.walk.proofs.Tables.{child-in, or-else-none, or-else-some}
+use Rattle.walk.proofs.Tables.{child-in}
 use Rattle.isolation.specs.Records.{recordOf}
 use Rattle.isolation.specs.Rows.{shown, bitsTo, isDone, rowLinks, rowsTo}
 

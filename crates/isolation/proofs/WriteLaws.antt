@@ -7,9 +7,8 @@ use native.Mathlib.Nat.{add-zero, zero-add}
 use native.Mathlib.Numerals.{add-one}
 use native.Mathlib.Omega.{arith}
 use borrow.Author.Tests.{eq-eqb, ne-eqb, le-leb, lt-leb}
-use lib.ListN.{length, getD, take, drop, length-map, length-append, length-take, length-drop, take-append-drop}
-use lib.Seq.{take-at, drop-append-add, drop-at, drop-drop, length-take-le}
-use Rattle.numbers.specs.BigEndian.{bytesOf}
+use lib.ListN.{length, getD, take, drop, length-map, length-append, length-take, take-append-drop}
+use lib.Seq.{take-at, drop-append-add, drop-drop}
 use Rattle.numbers.proofs.BigEndianLaws.{length-bytes}
 use Rattle.graph.specs.Chains.{Graph, Link, below, kept}
 use Rattle.format.specs.Lookup.{gathered}

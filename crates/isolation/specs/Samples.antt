@@ -1,6 +1,6 @@
 -- Document 01, "Bench samples": all starred samples as one table.
 use Prim.Native.Nat.{ℕ}
-use mathlib.Core.List.{List, [], _∷_, _++_}
+use mathlib.Core.List.{List, [], _∷_}
 use mathlib.Core.Path.{_≡_}
 use Rattle.format.specs.Samples.{b1}
 use Rattle.format.specs.Samples as files

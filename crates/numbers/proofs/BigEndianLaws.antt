@@ -2,7 +2,7 @@
 use Prim.Native.Nat.{ℕ, zero, suc, _+_, _-_, _*_, _/_, _%_, _^_, _≤_, _<_}
 use mathlib.Core.Path.{_≡_, refl, sym, _∙_, ap}
 use mathlib.Core.List.{List, [], _∷_}
-use native.Mathlib.Nat.{pow-suc, pow-le-pow-right, one-le-pow, mul-comm, mod-lt, mod-eq-of-lt, mul-add-div-right}
+use native.Mathlib.Nat.{pow-suc, pow-le-pow-right, one-le-pow, mod-lt, mod-eq-of-lt, mul-add-div-right}
 use native.Mathlib.Numerals.{add-one}
 use native.Mathlib.Omega.{arith}
 use lib.Arith.{digits-lt, digits-div, mod-mul}

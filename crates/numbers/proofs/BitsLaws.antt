@@ -7,7 +7,7 @@ use native.Mathlib.Omega.{arith}
 use borrow.Author.Tests.{lt-ltb, le-ltb, le-leb, lt-leb}
 use lib.Bits.{bitAnd, bitOr, and-block, or-block}
 use lib.Pow.{high, low, pow-add, shl-lt, shr-shr}
-use lib.Dec.{ltb, leb, eqb, lit<}
+use lib.Dec.{eqb, lit<}
 use Rattle.numbers.specs.Bits.{Bits, digit, wordOf, bitOf, notBits, andBits, orBits, leftBits, rightBits, notWord, andWord, orWord, leftWord, rightWord}
 
 -- Words and their bits

@@ -1,16 +1,13 @@
 -- The walk over two tables from start to end, in the code's own terms.
-use mathlib.Core.Path.{_≡_, refl, sym, ap, _∙_, subst}
+use mathlib.Core.Path.{_≡_, sym, _∙_}
 use mathlib.Core.Bool.{Bool, true, false}
 use mathlib.Core.List.{List}
 use Prim.Native.Nat.{ℕ, _+_, _≤_, _<_}
 use native.Mathlib.Omega.{arith}
 use lib.Dec.{ltb}
-use lib.ListN.{length}
-use Rattle.graph.specs.Chains.{Graph}
-use Rattle.walk.specs.declared.Walk.{Walk}
 use Rattle.walk.specs.declared.Walked.{Walked}
 use Rattle.walk.specs.TableGraph.{sizeOf, tableGraph}
-use Rattle.walk.specs.Marks.{firstWaiting, waits, started, stepped, stepWalk, finished}
+use Rattle.walk.specs.Marks.{firstWaiting, waits, started, stepped, finished}
 use Rattle.walk.proofs.Tables.{size-few, table-sound}
 use Rattle.walk.proofs.WalkLaws.{Walking, walked-start, walked-step, walked-less, walked-end, walked-steps, finished-nowhere, steps-nowhere}
 

@@ -1,9 +1,9 @@
 -- The walk's invariant, that a step keeps it, and what it says at the end.
-use mathlib.Core.Path.{_≡_, refl, sym, ap, _∙_, subst}
-use mathlib.Core.Bool.{Bool, true, false, cond, _&&_, _||_}
+use mathlib.Core.Path.{_≡_, refl, sym, _∙_, subst}
+use mathlib.Core.Bool.{true, false, cond, _&&_}
 use mathlib.Core.Logic.{_⊎_, inl, inr, ⊎-elim, _↔_}
-use mathlib.Core.List.{List, [], _∷_}
-use Prim.Native.Nat.{ℕ, zero, suc, _+_, _≤_, _<_}
+use mathlib.Core.List.{List}
+use Prim.Native.Nat.{ℕ, _+_, _≤_, _<_}
 use native.Mathlib.Omega.{arith}
 use lib.Dec.{eqb, ltb}
 use lib.ListN.{length, getD, set, replicate, length-set, length-replicate, getD-replicate, List·getD-eq-default}
@@ -13,7 +13,7 @@ use Rattle.numbers.proofs.Bools.{either, clash, and-left, and-right, and-both, 
 use Rattle.graph.specs.Below.{count}
 use Rattle.graph.specs.Paths.{Reached, here, next}
 use Rattle.graph.specs.Chains.{Graph, Sound, linked, reachedFrom, reachedCount}
-use Rattle.graph.proofs.BelowLaws.{count-one, count-same, count-yes, count-no, count-none, count-le, count-zero}
+use Rattle.graph.proofs.BelowLaws.{count-one, count-same, count-le, count-zero}
 use Rattle.graph.proofs.ChainsLaws.{linked-inside, reached-in}
 use Rattle.walk.specs.Marks.{firstWaiting, markAfter, tabulate, stepped, waits, started, finished}
 use Rattle.walk.proofs.First.{first-waits, first-le}
