@@ -1,0 +1,3 @@
+-- The laws of the reader's answers.
+pub mod Steps
+pub mod FieldLaws

@@ -1,0 +1,2 @@
+-- The reader's answers in the paper's values.
+pub mod Views
