@@ -1,3 +1,5 @@
 -- The laws of the reader's answers.
+pub mod Parsing
 pub mod Steps
 pub mod FieldLaws
+pub mod HeadLaws

@@ -1,2 +1,3 @@
--- The reader's answers in the paper's values.
+-- The reader's answers in the paper's values, and what they are made of.
 pub mod Views
+pub mod Heads

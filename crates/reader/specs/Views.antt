@@ -9,6 +9,9 @@ use Rattle.reader.specs.declared.NumberRead
 use Rattle.reader.specs.declared.NumberRead.{NumberRead}
 use Rattle.reader.specs.declared.NextRead
 use Rattle.reader.specs.declared.NextRead.{NextRead}
+use Rattle.reader.specs.declared.Head.{Head}
+use Rattle.reader.specs.declared.HeadRead
+use Rattle.reader.specs.declared.HeadRead.{HeadRead}
 
 -- A refusal's number and place.
 abbrev pub refusedBy : {A : Type 0} → Refusal → Parsed A
@@ -25,6 +28,10 @@ numberParsed (NumberRead.Refused r) = refusedBy r
 abbrev pub nextParsed : NextRead → Parsed (Unit {0})
 nextParsed (NextRead.Next next) = done tt next
 nextParsed (NextRead.Refused r) = refusedBy r
+
+abbrev pub headParsed : HeadRead → Parsed Head
+headParsed (HeadRead.Head h next) = done h next
+headParsed (HeadRead.Refused r) = refusedBy r
 
 -- The value is not kept.
 abbrev pub forget : {A : Type 0} → Parsed A → Parsed (Unit {0})

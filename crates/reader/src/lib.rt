@@ -1,6 +1,7 @@
 // The reader of chip data files: one function for each element of the layout, each with an equation with its definition.
 use format::Refusal;
 
+mod expressions;
 mod fields;
 
 // A byte with the place after it, or a refusal.
@@ -18,5 +19,22 @@ pub enum NumberRead {
 // The place after an element whose value is not kept, or a refusal.
 pub enum NextRead {
     Next(usize),
+    Refused(Refusal),
+}
+
+// What an expression's own fields say. Its operands follow: none, the number that it holds, or one.
+pub enum Head {
+    Reading(u64, u8),
+    Constant(u64),
+    All(u8),
+    Any(u8),
+    Inverse,
+    Left(u8),
+    Right(u8),
+}
+
+// A head with the place after it, or a refusal.
+pub enum HeadRead {
+    Head(Head, usize),
     Refused(Refusal),
 }
