@@ -3,3 +3,6 @@ pub mod Parsing
 pub mod Steps
 pub mod FieldLaws
 pub mod HeadLaws
+pub mod SeenLaws
+pub mod RowLaws
+pub mod RegisterLaws

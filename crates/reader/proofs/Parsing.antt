@@ -6,7 +6,7 @@ use mathlib.Core.List.{List, [], _∷_}
 use native.Mathlib.Omega.{arith}
 use native.Mathlib.Numerals.{sub-one}
 use lib.ListN.{length}
-use Rattle.format.specs.Parsed.{Parsed, done, refused, andThen, making, rowAt}
+use Rattle.format.specs.Parsed.{Parsed, done, refused, andThen, making, require, requiring, rowAt}
 use Rattle.reader.specs.Views.{forget}
 
 pub then-then : {A B C : Type 0} (p : Parsed A) (f : A → ℕ → Parsed B) (g : B → ℕ → Parsed C)
@@ -53,6 +53,32 @@ unfolding making
 missed g (done a n) e = let z : _≡_ {A = ℕ} 0 1 = cc in absurd (omega arith)
 missed g (refused j i) {k} {m} e = let h : j ≡ k = cc in let l : i ≡ m = cc in rw (h, l)
 
+-- A reading that follows another and gives a value: so did the first.
+pub record Followed {A B : Type 0} (p : Parsed A) (f : A → ℕ → Parsed B) (b : B) (m : ℕ) : Type 0 where
+  pub value : A
+  pub place : ℕ
+  pub is : p ≡ done value place
+  pub next : f value place ≡ done b m
+
+pub followed : {A B : Type 0} (p : Parsed A) (f : A → ℕ → Parsed B) {b : B} {m : ℕ} → andThen p f ≡ done b m → Followed p f b m
+unfolding andThen
+followed (done a n) f e = record { value = a; place = n; is = refl; next = e }
+followed (refused k j) f e = let z : _≡_ {A = ℕ} 0 1 = cc in absurd (omega arith)
+
+required : {A : Type 0} (b : Bool) (n p : ℕ) (q : Parsed A) {a : A} {m : ℕ} → require b n p (λ _. q) ≡ done a m → (b ≡ true) × (q ≡ done a m)
+unfolding require
+required true n p q e = (refl, e)
+required false n p q e = let z : _≡_ {A = ℕ} 0 1 = cc in absurd (omega arith)
+
+-- A value that had to pass a test passed it.
+pub passed : {A : Type 0} (test : A → Bool) (n p : ℕ) (q : Parsed A) {a : A} {m : ℕ} → requiring test n p q ≡ done a m → (test a ≡ true) × (q ≡ done a m)
+unfolding requiring andThen
+passed test n p (done b i) {a} {m} e =
+    let r = required (test b) n p (done b i) e in
+    let h : b ≡ a = cc (r .1) in
+    (rw h at (r .0), r .1)
+passed test n p (refused k j) e = let z : _≡_ {A = ℕ} 0 1 = cc in absurd (omega arith)
+
 -- Elements in a row.
 module _ {A : Type 0} (p : List A → ℕ → Parsed A) where
   pub row-end : (n : ℕ) (before : List A) (at : ℕ) → n ≤ 0 → rowAt p n before at ≡ done [] at
@@ -82,3 +108,27 @@ module _ {A : Type 0} (p : List A → ℕ → Parsed A) (blind : (b c : List A) 
           → andThen q (λ a next. making (λ rest. a ∷ rest) (rowAt p n (a ∷ b) next)) ≡ andThen q (λ a next. making (λ rest. a ∷ rest) (rowAt p n (a ∷ c) next))
       go (done a m) k = ap (λ r. making (λ rest. a ∷ rest) r) (k (a ∷ b) (a ∷ c) m)
       go (refused i m) k = refl
+
+-- How many elements a row has, and how many there can be.
+module _ {A : Type 0} (p : List A → ℕ → Parsed A) where
+  pub row-length : (n : ℕ) (before : List A) (at : ℕ) {xs : List A} {m : ℕ} → rowAt p n before at ≡ done xs m → length xs ≡ n
+  unfolding rowAt
+  row-length zero before at {xs} {m} e = let h : [] ≡ xs = cc in rw (← h)
+  row-length (suc n) before at {xs} {m} e =
+      let f : Followed (p before at) (λ a next. making (λ rest. a ∷ rest) (rowAt p n (a ∷ before) next)) xs m = followed (p before at) _ e in
+      let g : Found (λ rest. f .value ∷ rest) (rowAt p n (f .value ∷ before) (f .place)) xs m = found _ _ (sym (f .next)) in
+      rw (← g .made) (ap suc (row-length n (f .value ∷ before) (f .place) (g .is)))
+
+  module _ (base limit : ℕ) (room : (before : List A) (at : ℕ) (a : A) (m : ℕ) → p before at ≡ done a m → base + length before < limit) where
+    pub row-bound : (n : ℕ) (before : List A) (at : ℕ) {xs : List A} {m : ℕ} → rowAt p n before at ≡ done xs m → 0 < n → base + length before + n ≤ limit
+    unfolding rowAt
+    row-bound zero before at e h = absurd (omega arith)
+    row-bound (suc zero) before at {xs} {m} e h =
+        let f : Followed (p before at) (λ a next. making (λ rest. a ∷ rest) (rowAt p zero (a ∷ before) next)) xs m = followed (p before at) _ e in
+        let k : base + length before < limit = room before at (f .value) (f .place) (f .is) in
+        omega arith
+    row-bound (suc (suc n)) before at {xs} {m} e h =
+        let f : Followed (p before at) (λ a next. making (λ rest. a ∷ rest) (rowAt p (suc n) (a ∷ before) next)) xs m = followed (p before at) _ e in
+        let g : Found (λ rest. f .value ∷ rest) (rowAt p (suc n) (f .value ∷ before) (f .place)) xs m = found _ _ (sym (f .next)) in
+        let k : base + suc (length before) + suc n ≤ limit = row-bound (suc n) (f .value ∷ before) (f .place) (g .is) (omega arith) in
+        omega arith

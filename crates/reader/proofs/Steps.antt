@@ -138,6 +138,10 @@ module _ {A B : Type 0} (test : A → Bool) (n p : ℕ) (q : Parsed A) (f : A �
   pub requiring-then′ : {C : Type 0} (g : B → C) {y : Parsed C} → y ≡ making g (andThen q (λ a m. require (test a) n p (λ _. f a m))) → y ≡ making g (andThen (requiring test n p q) f)
   requiring-then′ g e = rw requiring-is e
 
+pub requiring-value : {A : Type 0} (test : A → Bool) (n p : ℕ) (q : Parsed A) {y : Parsed A} → y ≡ andThen q (λ a m. require (test a) n p (λ _. done a m)) → y ≡ requiring test n p q
+unfolding requiring
+requiring-value test n p q e = e
+
 pub made : {A B : Type 0} (g : A → B) {a : A} {n : ℕ} {y : Parsed B} → y ≡ done (g a) n → y ≡ making g (done a n)
 unfolding making
 made g e = e
@@ -149,4 +153,4 @@ twice g h (refused k m) e = e
 
 pub ruleset tests = (le-leb, lt-leb, lt-ltb, le-ltb, eq-eqb, ne-eqb)
 
-pub ruleset steps = (byte-then, byte-stop, number-then, number-stop, byte-then′, byte-stop′, number-then′, number-stop′, byte-makes, byte-makes-no, number-makes, number-makes-no, next-then, next-stop, next-then′, next-stop′, passes, fails, passes′, fails′, requiring-then, requiring-then′, made, twice, tests)
+pub ruleset steps = (byte-then, byte-stop, number-then, number-stop, byte-then′, byte-stop′, number-then′, number-stop′, byte-makes, byte-makes-no, number-makes, number-makes-no, next-then, next-stop, next-then′, next-stop′, passes, fails, passes′, fails′, requiring-value, requiring-then, requiring-then′, made, twice, tests)

@@ -3,6 +3,8 @@ use format::Refusal;
 
 mod expressions;
 mod fields;
+mod registers;
+mod seen;
 
 // A byte with the place after it, or a refusal.
 pub enum ByteRead {
@@ -36,5 +38,37 @@ pub enum Head {
 // A head with the place after it, or a refusal.
 pub enum HeadRead {
     Head(Head, usize),
+    Refused(Refusal),
+}
+
+// What a register starts with.
+pub struct RegisterHead {
+    pub id: u64,
+    pub kind: u8,
+    pub flags: u8,
+    pub count: u8,
+}
+
+// A register's head with the place after it, or a refusal.
+pub enum RegisterHeadRead {
+    Head(RegisterHead, usize),
+    Refused(Refusal),
+}
+
+// A register or a node, read whole: its ID, how many instances it has, and the place after it; or a refusal.
+pub enum ElementRead {
+    Element(u64, u8, usize),
+    Refused(Refusal),
+}
+
+// How many instances some registers or nodes have, with the place after them; or a refusal.
+pub enum CountRead {
+    Count(usize, usize),
+    Refused(Refusal),
+}
+
+// A section: how many registers or nodes it has, how many instances, and the place after it; or a refusal.
+pub enum SectionRead {
+    Section(usize, usize, usize),
     Refused(Refusal),
 }
