@@ -130,3 +130,12 @@ module _ (s : List ℕ) (at : ℕ) (word : List ℕ) where
     pub keyword-wrong : b ≡ false → refused 3 at ≡ keywordAt s at word
     unfolding keywordAt require
     keyword-wrong g = rw (present-yes s at (length word) h, ← add-sub-cancel-left at (length word), sym e ∙ g)
+
+-- The version is 1.
+pub version-one : (v : ℕ) → v ≡ 1 → eqb 1 v ≡ true
+version-one v e = eq-eqb 1 v (sym e)
+
+pub version-other : (v : ℕ) → (v ≡ 1 → ⊥) → eqb 1 v ≡ false
+version-other v e = ne-eqb 1 v (λ g. e (sym g))
+
+pub ruleset one-laws = (version-one, version-other)

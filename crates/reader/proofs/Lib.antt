@@ -6,3 +6,5 @@ pub mod HeadLaws
 pub mod SeenLaws
 pub mod RowLaws
 pub mod RegisterLaws
+pub mod NodeLaws
+pub mod RootLaws

@@ -11,6 +11,7 @@ use Rattle.reader.specs.declared.NumberRead
 use Rattle.reader.specs.declared.NumberRead.{NumberRead}
 use Rattle.reader.specs.declared.NextRead
 use Rattle.reader.specs.declared.NextRead.{NextRead}
+use Rattle.reader.proofs.Parsing.{Found, found, missed}
 use Rattle.reader.specs.Views.{refusedBy, byteParsed, numberParsed, nextParsed, forget}
 
 -- The laws of a source: an answer x, seen by a view, is what p reads; it is c, which the view takes to a value or a refusal.
@@ -96,6 +97,31 @@ module _ {B C : Type 0} (g : B → C) (p : Parsed (Unit {0})) (f : Unit {0} → 
 
   pub next-stop′ : {x : NextRead} {r : Refusal} → nextParsed x ≡ p → x ≡ NextRead.Refused r → y ≡ refusedBy r → y ≡ making g (andThen p f)
   next-stop′ = stops-making nextParsed g p f refl
+
+-- An element whose value is not kept.
+module _ {A B : Type 0} (q : Parsed A) {x : NextRead} {y : Parsed B} where
+  pub forgot-makes : (v : B) {n : ℕ} → nextParsed x ≡ forget q → x ≡ NextRead.Next n → y ≡ done v n → y ≡ making (λ _. v) q
+  unfolding making
+  forgot-makes v {n} e g k =
+      let f : Found (λ _. tt) q tt n = found (λ _. tt) q (sym (ap nextParsed g) ∙ e) in
+      k ∙ sym (ap (making (λ _. v)) (f .is))
+
+  pub forgot-makes-no : (g : A → B) {r : Refusal} → nextParsed x ≡ forget q → x ≡ NextRead.Refused r → y ≡ refusedBy r → y ≡ making g q
+  unfolding making
+  forgot-makes-no g e h k = k ∙ sym (ap (making g) (missed (λ _. tt) q (sym (ap nextParsed h) ∙ e)))
+
+module _ {A B C : Type 0} (g : B → C) (q : Parsed A) (f : A → ℕ → Parsed B) {x : NextRead} {y : Parsed C} where
+  pub forgot-then : {n : ℕ} → nextParsed x ≡ forget q → x ≡ NextRead.Next n → ((a : A) → y ≡ making g (f a n)) → y ≡ making g (andThen q f)
+  unfolding andThen
+  forgot-then {n} e h k =
+      let d : Found (λ _. tt) q tt n = found (λ _. tt) q (sym (ap nextParsed h) ∙ e) in
+      k (d .value) ∙ sym (ap (λ r. making g (andThen r f)) (d .is))
+
+  pub forgot-stop : {r : Refusal} → nextParsed x ≡ forget q → x ≡ NextRead.Refused r → y ≡ refusedBy r → y ≡ making g (andThen q f)
+  unfolding andThen making
+  forgot-stop e h k = k ∙ sym (ap (λ r. making g (andThen r f)) (missed (λ _. tt) q (sym (ap nextParsed h) ∙ e)))
+
+pub ruleset forgetting = (forgot-makes, forgot-makes-no, forgot-then, forgot-stop)
 
 -- Tests.
 module _ {A : Type 0} (b : Bool) (n p : ℕ) (k : Unit {0} → Parsed A) {y : Parsed A} where

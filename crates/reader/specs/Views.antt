@@ -5,8 +5,9 @@ use lib.ListN.{length}
 use Rattle.format.specs.declared.Refusal.{Refusal}
 use Rattle.format.specs.Refusals.{numberOf}
 use Rattle.format.specs.Parsed.{Parsed, done, refused, making}
-use Rattle.format.specs.Tree.{RegisterInstance, Register}
+use Rattle.format.specs.Tree.{RegisterInstance, Register, Rule, Child, NodeInstance, Node, Root}
 use Rattle.format.specs.RegisterLayout.{RegisterHead, registerTotal}
+use Rattle.format.specs.NodeLayout.{NodeHead, InstanceHead, nodeTotal}
 use Rattle.reader.specs.declared.ByteRead
 use Rattle.reader.specs.declared.ByteRead.{ByteRead}
 use Rattle.reader.specs.declared.NumberRead
@@ -18,6 +19,10 @@ use Rattle.reader.specs.declared.HeadRead
 use Rattle.reader.specs.declared.HeadRead.{HeadRead}
 use Rattle.reader.specs.declared.RegisterHeadRead
 use Rattle.reader.specs.declared.RegisterHeadRead.{RegisterHeadRead}
+use Rattle.reader.specs.declared.NodeHeadRead
+use Rattle.reader.specs.declared.NodeHeadRead.{NodeHeadRead}
+use Rattle.reader.specs.declared.InstanceHeadRead
+use Rattle.reader.specs.declared.InstanceHeadRead.{InstanceHeadRead}
 use Rattle.reader.specs.declared.ElementRead
 use Rattle.reader.specs.declared.ElementRead.{ElementRead}
 use Rattle.reader.specs.declared.CountRead
@@ -48,6 +53,14 @@ headParsed (HeadRead.Refused r) = refusedBy r
 abbrev pub registerHeadParsed : RegisterHeadRead → Parsed RegisterHead
 registerHeadParsed (RegisterHeadRead.Head h next) = done (record { id = h .id; type = h .kind; flags = h .flags; count = h .count }) next
 registerHeadParsed (RegisterHeadRead.Refused r) = refusedBy r
+
+abbrev pub nodeHeadParsed : NodeHeadRead → Parsed NodeHead
+nodeHeadParsed (NodeHeadRead.Head h next) = done (record { id = h .id; type = h .kind; count = h .count }) next
+nodeHeadParsed (NodeHeadRead.Refused r) = refusedBy r
+
+abbrev pub instanceHeadParsed : InstanceHeadRead → Parsed InstanceHead
+instanceHeadParsed (InstanceHeadRead.Head h next) = done (record { number = h .number; captures = h .captures; rules = h .rules; children = h .children }) next
+instanceHeadParsed (InstanceHeadRead.Refused r) = refusedBy r
 
 -- What is kept of a register or a node: its ID, and how many instances it has.
 pub record Element : Type 0 where
@@ -82,6 +95,27 @@ registerElement r = record { id = r .id; instances = length (r .instances) }
 
 abbrev pub registerSection : List Register → Section
 registerSection rs = record { elements = length rs; instances = registerTotal rs }
+
+abbrev pub ruleAttention : Rule → ℕ
+ruleAttention r = r .attention
+
+abbrev pub childBit : Child → ℕ
+childBit c = c .bit
+
+abbrev pub nodeNumber : NodeInstance → ℕ
+nodeNumber i = i .number
+
+abbrev pub nodeId : Node → ℕ
+nodeId n = n .id
+
+abbrev pub nodeElement : Node → Element
+nodeElement n = record { id = n .id; instances = length (n .instances) }
+
+abbrev pub nodeSection : List Node → Section
+nodeSection ns = record { elements = length ns; instances = nodeTotal ns }
+
+abbrev pub rootAttention : Root → ℕ
+rootAttention r = r .attention
 
 -- The value is not kept.
 abbrev pub forget : {A : Type 0} → Parsed A → Parsed (Unit {0})

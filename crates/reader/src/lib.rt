@@ -3,7 +3,9 @@ use format::Refusal;
 
 mod expressions;
 mod fields;
+mod nodes;
 mod registers;
+mod roots;
 mod seen;
 
 // A byte with the place after it, or a refusal.
@@ -52,6 +54,33 @@ pub struct RegisterHead {
 // A register's head with the place after it, or a refusal.
 pub enum RegisterHeadRead {
     Head(RegisterHead, usize),
+    Refused(Refusal),
+}
+
+// What a node starts with.
+pub struct NodeHead {
+    pub id: u64,
+    pub kind: u8,
+    pub count: u8,
+}
+
+// A node's head with the place after it, or a refusal.
+pub enum NodeHeadRead {
+    Head(NodeHead, usize),
+    Refused(Refusal),
+}
+
+// What a node instance starts with.
+pub struct InstanceHead {
+    pub number: u8,
+    pub captures: u8,
+    pub rules: u8,
+    pub children: u8,
+}
+
+// A node instance's head with the place after it, or a refusal.
+pub enum InstanceHeadRead {
+    Head(InstanceHead, usize),
     Refused(Refusal),
 }
 

@@ -1,11 +1,13 @@
 // What the reader keeps of the elements before: marks for numbers of one byte, and a list of IDs.
 use crate::ByteRead;
+use crate::fields::attention_at;
 use crate::fields::byte_at;
 use format::Kind;
 use format::Refusal;
 ghost use mathlib.Core.Bool.{not};
 ghost use mathlib.Core.Path.{_≡_};
-ghost use Rattle.format.specs.Fields.{member};
+ghost use Rattle.format.specs.Fields.{member, attentionAt};
+ghost use Rattle.format.specs.Parsed.{requiring};
 ghost use Rattle.reader.specs.Seen.{unmarked, instanceNumberAt};
 ghost use Rattle.reader.specs.Views.{byteParsed};
 
@@ -54,6 +56,25 @@ pub fn instance_number_at(s: &[u8], at: usize, begun: usize, limit: usize, seen:
                 });
             }
             ByteRead::Byte(number, next)
+        }
+        ByteRead::Refused(r) => ByteRead::Refused(r),
+    }
+}
+
+// An attention type that has no mark yet.
+pub fn new_attention_at(s: &[u8], at: usize, seen: &[u8]) -> ByteRead
+    ensures { λ r. ⌜ byteParsed r ≡ requiring (unmarked (now (seen .entry))) 7 at (attentionAt (now (s .entry)) at) ⌝ }
+{
+    let b = attention_at(s, at);
+    match b {
+        ByteRead::Byte(attention, next) => {
+            if is_marked(seen, attention) {
+                return ByteRead::Refused(Refusal {
+                    kind: Kind::Duplicate,
+                    place: at,
+                });
+            }
+            ByteRead::Byte(attention, next)
         }
         ByteRead::Refused(r) => ByteRead::Refused(r),
     }
