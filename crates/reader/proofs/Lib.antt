@@ -8,3 +8,4 @@ pub mod RowLaws
 pub mod RegisterLaws
 pub mod NodeLaws
 pub mod RootLaws
+pub mod LayoutLaws

@@ -2,3 +2,4 @@
 pub mod Views
 pub mod Heads
 pub mod Seen
+pub mod Layout

@@ -1,8 +1,9 @@
 // The reader of chip data files: one function for each element of the layout, each with an equation with its definition.
 use format::Refusal;
 
-mod expressions;
+pub mod expressions;
 mod fields;
+pub mod file;
 mod nodes;
 mod registers;
 mod roots;
@@ -99,5 +100,25 @@ pub enum CountRead {
 // A section: how many registers or nodes it has, how many instances, and the place after it; or a refusal.
 pub enum SectionRead {
     Section(usize, usize, usize),
+    Refused(Refusal),
+}
+
+// Where a file's sections begin, and what it holds.
+pub struct Layout {
+    pub model: u64,
+    pub registers: usize,
+    pub register_instances: usize,
+    pub nodes: usize,
+    pub node_instances: usize,
+    pub roots: usize,
+    pub registers_at: usize,
+    pub nodes_at: usize,
+    pub roots_at: usize,
+    pub end: usize,
+}
+
+// The layout of a file, or the first refusal of 2 to 10 in byte order.
+pub enum LayoutRead {
+    Done(Layout),
     Refused(Refusal),
 }
