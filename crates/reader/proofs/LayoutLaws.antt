@@ -13,13 +13,15 @@ use Rattle.format.specs.RegisterLayout.{registerTotal, registersAt}
 use Rattle.format.specs.NodeLayout.{nodeTotal, nodesAt}
 use Rattle.format.specs.FileLayout.{startAt, rootsAt, fileAt}
 use Rattle.format.specs.Tree.{Register, Node, Root, Chip}
-use Rattle.reader.specs.declared.SectionRead
-use Rattle.reader.specs.declared.SectionRead.{SectionRead}
-use Rattle.reader.specs.declared.ByteRead
-use Rattle.reader.specs.declared.ByteRead.{ByteRead}
+use Rattle.fields.specs.declared.SectionRead
+use Rattle.fields.specs.declared.SectionRead.{SectionRead}
+use Rattle.fields.specs.declared.ByteRead
+use Rattle.fields.specs.declared.ByteRead.{ByteRead}
 use Rattle.reader.specs.Layout.{Summary, summary, layoutAt, layoutValues, chipValues}
-use Rattle.reader.specs.Views.{Section, refusedBy, byteParsed, sectionParsed, registerSection, nodeSection}
-use Rattle.reader.proofs.Parsing.{Found, found, missed, followed, making-after, making-making}
+use Rattle.fields.specs.Views.{Section, refusedBy, byteParsed, sectionParsed}
+use Rattle.registers.specs.Registers.{registerSection}
+use Rattle.nodes.specs.Nodes.{nodeSection}
+use Rattle.fields.proofs.Parsing.{Found, found, missed, followed, making-after, making-making}
 
 -- A section, of which the counts are kept, and what follows it.
 module _ {A B : Type 0} (g : A → Section) (p : Parsed A) (f : A → ℕ → Parsed B) {x : SectionRead} {y : Parsed B} where

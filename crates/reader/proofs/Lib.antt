@@ -1,11 +1,3 @@
--- The laws of the reader's answers.
-pub mod Parsing
-pub mod Steps
-pub mod FieldLaws
-pub mod HeadLaws
-pub mod SeenLaws
-pub mod RowLaws
-pub mod RegisterLaws
-pub mod NodeLaws
+-- The laws of the roots section and of a whole file.
 pub mod RootLaws
 pub mod LayoutLaws

@@ -8,12 +8,13 @@ use Rattle.format.specs.Parsed.{Parsed, done, andThen, making, requiring, rowAt
 use Rattle.format.specs.Fields.{fieldAt, attentionAt}
 use Rattle.format.specs.Tree.{Root}
 use Rattle.format.specs.FileLayout.{rootAt}
-use Rattle.reader.specs.declared.NextRead
-use Rattle.reader.specs.declared.NextRead.{NextRead}
-use Rattle.reader.specs.Seen.{unmarked, Tells}
-use Rattle.reader.specs.Views.{nextParsed, rootAttention, forget}
-use Rattle.reader.proofs.Parsing.{Found, found, row-length}
-use Rattle.reader.proofs.SeenLaws.{tells-is}
+use Rattle.fields.specs.declared.NextRead
+use Rattle.fields.specs.declared.NextRead.{NextRead}
+use Rattle.fields.specs.Seen.{unmarked, Tells}
+use Rattle.fields.specs.Views.{nextParsed, forget}
+use Rattle.reader.specs.Roots.{rootAttention}
+use Rattle.fields.proofs.Parsing.{Found, found, row-length}
+use Rattle.fields.proofs.SeenLaws.{tells-is}
 
 -- A root after those that the marks tell of.
 pub root-told : (g : Root → ℕ) (s : List ℕ) (before : List Root) (at : ℕ) (table : List ℕ) {y : Parsed ℕ} → Tells (unmarked table) (map rootAttention before)

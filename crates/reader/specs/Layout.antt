@@ -12,7 +12,7 @@ use Rattle.format.specs.Refusals.{CheckValues, acceptedWith}
 use Rattle.format.specs.Lookup.{registerEntries, nodeEntries}
 use Rattle.reader.specs.declared.LayoutRead
 use Rattle.reader.specs.declared.LayoutRead.{LayoutRead}
-use Rattle.reader.specs.Views.{refusedBy}
+use Rattle.fields.specs.Views.{refusedBy}
 
 -- Counts, the places of the three section keywords, and the place after the last root.
 pub record Summary : Type 0 where

@@ -1,5 +1,3 @@
--- The reader's answers in the paper's values, and what they are made of.
-pub mod Views
-pub mod Heads
-pub mod Seen
+-- What the answers about a whole file stand for.
+pub mod Roots
 pub mod Layout

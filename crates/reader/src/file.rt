@@ -1,13 +1,13 @@
 // The layout of a whole file.
-use crate::ByteRead;
 use crate::Layout;
 use crate::LayoutRead;
-use crate::NumberRead;
-use crate::SectionRead;
-use crate::nodes::nodes_at;
-use crate::registers::registers_at;
 use crate::roots::roots_at;
 use crate::roots::start_at;
+use fields::ByteRead;
+use fields::NumberRead;
+use fields::SectionRead;
+use nodes::nodes_at;
+use registers::registers_at;
 ghost use mathlib.Core.Path.{_≡_};
 ghost use Rattle.reader.specs.Layout.{layoutParsed, layoutAt};
 
@@ -18,14 +18,14 @@ pub fn layout(s: &[u8]) -> LayoutRead
     let start = start_at(s, 0);
     match start {
         NumberRead::Number(model, a) => {
-            let regs = registers_at(s, a);
-            match regs {
+            let first = registers_at(s, a);
+            match first {
                 SectionRead::Section(registers, register_instances, b) => {
-                    let nods = nodes_at(s, b);
-                    match nods {
+                    let second = nodes_at(s, b);
+                    match second {
                         SectionRead::Section(nodes, node_instances, c) => {
-                            let rts = roots_at(s, c);
-                            match rts {
+                            let third = roots_at(s, c);
+                            match third {
                                 ByteRead::Byte(roots, end) => LayoutRead::Done(Layout {
                                     model,
                                     registers,

@@ -1,12 +1,12 @@
 // The start of a file and the roots section.
-use crate::ByteRead;
-use crate::NextRead;
-use crate::NumberRead;
-use crate::fields::byte_at;
-use crate::fields::byte_count_at;
-use crate::fields::keyword_at;
-use crate::fields::number_at;
-use crate::seen::new_attention_at;
+use fields::ByteRead;
+use fields::NextRead;
+use fields::NumberRead;
+use fields::byte_at;
+use fields::byte_count_at;
+use fields::keyword_at;
+use fields::number_at;
+use fields::seen::new_attention_at;
 use format::Kind;
 use format::Refusal;
 use numbers::Width;
@@ -17,8 +17,10 @@ ghost use lib.ListN.{length};
 ghost use Rattle.format.specs.Parsed.{making, requiring, rowAt};
 ghost use Rattle.format.specs.Tree.{Root};
 ghost use Rattle.format.specs.FileLayout.{startAt, rootAt, rootsAt};
-ghost use Rattle.reader.specs.Seen.{unmarked, Tells, versionAt};
-ghost use Rattle.reader.specs.Views.{byteParsed, numberParsed, nextParsed, rootAttention, forget};
+ghost use Rattle.fields.specs.Seen.{unmarked, Tells};
+ghost use Rattle.reader.specs.Roots.{versionAt};
+ghost use Rattle.fields.specs.Views.{byteParsed, numberParsed, nextParsed, forget};
+ghost use Rattle.reader.specs.Roots.{rootAttention};
 
 // The version: 1.
 fn version_at(s: &[u8], at: usize) -> ByteRead

@@ -1,5 +1,5 @@
 use borrow.Author.Needs.{needs}
-use Rattle.reader.proofs.Steps.{steps}
+use Rattle.fields.proofs.Steps.{steps}
 use Rattle.reader.proofs.RootLaws.{root-told}
 use Rattle.reader.proofs.roots.root_at.Statement.{statement}
 use Rattle.reader.proofs.roots.root_at.Tie as tie

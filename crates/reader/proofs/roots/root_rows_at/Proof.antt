@@ -7,8 +7,9 @@ use native.Mathlib.Omega.{arith}
 use borrow.Author.Needs.{needs}
 use Rattle.format.specs.Parsed.{rowAt}
 use Rattle.format.specs.FileLayout.{rootAt}
-use Rattle.reader.specs.Views.{rootAttention, byteParsed}
-use Rattle.reader.proofs.RowLaws.{Row, row-begin, row-next, row-last, row-refused}
+use Rattle.reader.specs.Roots.{rootAttention}
+use Rattle.fields.specs.Views.{byteParsed}
+use Rattle.fields.proofs.RowLaws.{Row, row-begin, row-next, row-last, row-refused}
 use Rattle.reader.proofs.roots.root_rows_at.Statement.{statement}
 use Rattle.reader.proofs.roots.root_rows_at.Tie as tie
 

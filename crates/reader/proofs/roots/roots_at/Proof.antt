@@ -2,7 +2,7 @@ use mathlib.Core.Path.{refl}
 use borrow.Author.Needs.{needs}
 use Rattle.format.specs.Limits.{root}
 use Rattle.format.specs.FileLayout.{rootsAt}
-use Rattle.reader.proofs.Steps.{steps, next-then′, byte-then′, forgot-makes-no}
+use Rattle.fields.proofs.Steps.{steps, next-then′, byte-then′, forgot-makes-no}
 use Rattle.reader.proofs.RootLaws.{roots-counted}
 use Rattle.reader.proofs.roots.roots_at.Statement.{statement}
 use Rattle.reader.proofs.roots.roots_at.Tie as tie

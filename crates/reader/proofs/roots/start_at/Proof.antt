@@ -1,8 +1,8 @@
 use borrow.Author.Needs.{needs}
 use Rattle.format.specs.FileLayout.{startAt}
 use Rattle.format.specs.Limits.{chipdata}
-use Rattle.reader.specs.Seen.{versionAt}
-use Rattle.reader.proofs.Steps.{steps}
+use Rattle.reader.specs.Roots.{versionAt}
+use Rattle.fields.proofs.Steps.{steps}
 use Rattle.reader.proofs.roots.start_at.Statement.{statement}
 use Rattle.reader.proofs.roots.start_at.Tie as tie
 

@@ -1,7 +1,7 @@
 use borrow.Author.Needs.{needs}
-use Rattle.reader.specs.Seen.{versionAt}
-use Rattle.reader.proofs.Steps.{steps}
-use Rattle.reader.proofs.FieldLaws.{one-laws}
+use Rattle.reader.specs.Roots.{versionAt}
+use Rattle.fields.proofs.Steps.{steps}
+use Rattle.fields.proofs.FieldLaws.{one-laws}
 use Rattle.reader.proofs.roots.version_at.Statement.{statement}
 use Rattle.reader.proofs.roots.version_at.Tie as tie
 
