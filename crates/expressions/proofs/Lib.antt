@@ -1,0 +1,2 @@
+-- The laws of heads.
+pub mod HeadLaws

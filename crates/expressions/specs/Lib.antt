@@ -1,0 +1,2 @@
+-- Expressions as heads with operands.
+pub mod Heads

@@ -1,0 +1,141 @@
+-- From a byte, a number and a keyword to what the layout calls a field.
+use Prim.Native.Nat.{ℕ, zero, suc, _+_, _-_, _%_, _≤_, _<_}
+use mathlib.Core.Path.{_≡_, refl, sym, _∙_, ap}
+use mathlib.Core.Bool.{Bool, true, false, not, cond, _&&_, _||_}
+use mathlib.Core.List.{List, [], _∷_}
+use native.Mathlib.Omega.{arith}
+use native.Mathlib.Nat.{add-sub-cancel-left}
+use borrow.Author.Tests.{eq-eqb, ne-eqb, le-leb, lt-leb}
+use lib.ListN.{length, take, drop, getD, drop-of-length-le}
+use lib.Dec.{eqb, leb}
+use lib.Seq.{drop-cons}
+use native.Mathlib.Numerals.{add-one}
+use Rattle.numbers.specs.declared.NumberRead
+use Rattle.numbers.specs.declared.NumberRead.{NumberRead}
+use Rattle.numbers.specs.declared.ByteRead
+use Rattle.numbers.specs.declared.ByteRead.{ByteRead}
+use Rattle.numbers.specs.Field.{present, field, numberAt, byteAt}
+use Rattle.numbers.proofs.Bools.{or-right, and-both}
+use Rattle.numbers.proofs.FieldLaws.{present-yes, present-no}
+use Rattle.format.specs.Parsed.{Parsed, done, refused, require}
+use Rattle.format.specs.Fields.{fieldAt, same, keywordAt, knownType, knownFlags, knownAttention}
+
+module _ (s : List ℕ) (at : ℕ) where
+  pub byte-there : {x : ByteRead} {v n : ℕ} → x ≡ byteAt s at → x ≡ ByteRead.Byte v n → done v n ≡ fieldAt s at 1
+  unfolding byteAt fieldAt require
+  byte-there {x} {v} {n} e g = go (present s at 1) (sym g ∙ e)
+    where
+      go : (b : Bool) → ByteRead.Byte v n ≡ cond b (ByteRead.Byte (field s at 1) (at + 1)) ByteRead.Cut → done v n ≡ require b 2 at (λ _. done (field s at 1) (at + 1))
+      go true h = cc
+      go false h = let z : _≡_ {A = ℕ} 0 1 = cc in absurd (omega arith)
+
+  pub byte-absent : {x : ByteRead} → x ≡ byteAt s at → x ≡ ByteRead.Cut → refused 2 at ≡ fieldAt s at 1
+  unfolding byteAt fieldAt require
+  byte-absent {x} e g = go (present s at 1) (sym g ∙ e)
+    where
+      go : (b : Bool) → ByteRead.Cut ≡ cond b (ByteRead.Byte (field s at 1) (at + 1)) ByteRead.Cut → refused 2 at ≡ require b 2 at (λ _. done (field s at 1) (at + 1))
+      go true h = let z : _≡_ {A = ℕ} 0 1 = cc in absurd (omega arith)
+      go false h = refl
+
+module _ (s : List ℕ) (at w : ℕ) where
+  pub number-there : {x : NumberRead} {v n : ℕ} → x ≡ numberAt s at w → x ≡ NumberRead.Number v n → done v n ≡ fieldAt s at w
+  unfolding numberAt fieldAt require
+  number-there {x} {v} {n} e g = go (present s at w) (sym g ∙ e)
+    where
+      go : (b : Bool) → NumberRead.Number v n ≡ cond b (NumberRead.Number (field s at w) (at + w)) NumberRead.Cut → done v n ≡ require b 2 at (λ _. done (field s at w) (at + w))
+      go true h = cc
+      go false h = let z : _≡_ {A = ℕ} 0 1 = cc in absurd (omega arith)
+
+  pub number-absent : {x : NumberRead} → x ≡ numberAt s at w → x ≡ NumberRead.Cut → refused 2 at ≡ fieldAt s at w
+  unfolding numberAt fieldAt require
+  number-absent {x} e g = go (present s at w) (sym g ∙ e)
+    where
+      go : (b : Bool) → NumberRead.Cut ≡ cond b (NumberRead.Number (field s at w) (at + w)) NumberRead.Cut → refused 2 at ≡ require b 2 at (λ _. done (field s at w) (at + w))
+      go true h = let z : _≡_ {A = ℕ} 0 1 = cc in absurd (omega arith)
+      go false h = refl
+
+pub ruleset field-laws = (byte-there, byte-absent, number-there, number-absent)
+
+-- Which values are known.
+pub type-one : (t : ℕ) → t ≡ 1 → knownType t ≡ true
+unfolding knownType
+type-one t e = rw (eq-eqb t 1 e)
+
+pub type-two : (t : ℕ) → t ≡ 2 → knownType t ≡ true
+unfolding knownType
+type-two t e = or-right (eqb t 1) (eq-eqb t 2 e)
+
+pub type-none : (t : ℕ) → (t ≡ 1 → ⊥) → (t ≡ 2 → ⊥) → knownType t ≡ false
+unfolding knownType
+type-none t e g = rw (ne-eqb t 1 e, ne-eqb t 2 g)
+
+pub flags-known : (f : ℕ) → f % 0x40 ≡ 0 → knownFlags f ≡ true
+unfolding knownFlags
+flags-known f e = eq-eqb _ _ e
+
+pub flags-unknown : (f : ℕ) → (f % 0x40 ≡ 0 → ⊥) → knownFlags f ≡ false
+unfolding knownFlags
+flags-unknown f e = ne-eqb _ _ e
+
+pub attention-known : (a : ℕ) → 1 ≤ a → a ≤ 5 → knownAttention a ≡ true
+unfolding knownAttention
+attention-known a h k = and-both (le-leb 1 a h) (le-leb a 5 k)
+
+pub attention-low : (a : ℕ) → a < 1 → knownAttention a ≡ false
+unfolding knownAttention
+attention-low a h = rw (lt-leb 1 a h)
+
+pub attention-high : (a : ℕ) → 1 ≤ a → 5 < a → knownAttention a ≡ false
+unfolding knownAttention
+attention-high a h k = rw (le-leb 1 a h, lt-leb a 5 k)
+
+pub ruleset known-laws = (type-one, type-two, type-none, flags-known, flags-unknown, attention-known, attention-low, attention-high)
+
+-- The same bytes, from a place on.
+pub same-lengths : (a b : List ℕ) → (length a ≡ length b → ⊥) → false ≡ same a b
+unfolding same
+same-lengths [] [] h = absurd (h refl)
+same-lengths [] (y ∷ ys) h = refl
+same-lengths (x ∷ xs) [] h = refl
+same-lengths (x ∷ xs) (y ∷ ys) h = go (eqb x y) (same-lengths xs ys (λ e. h (ap suc e)))
+  where
+    go : (t : Bool) → false ≡ same xs ys → false ≡ t && same xs ys
+    go true e = e
+    go false e = refl
+
+module _ (a b : List ℕ) (i : ℕ) where
+  pub same-more : i < length a → i < length b → getD a i 0 ≡ getD b i 0 → same (drop (i + 1) a) (drop (i + 1) b) ≡ same (drop i a) (drop i b)
+  unfolding same
+  same-more h k e = rw (add-one, drop-cons a i 0 h, drop-cons b i 0 k, eq-eqb _ _ e)
+
+  pub same-no : i < length a → i < length b → (getD a i 0 ≡ getD b i 0 → ⊥) → same (drop i a) (drop i b) ≡ false
+  unfolding same
+  same-no h k e = rw (drop-cons a i 0 h, drop-cons b i 0 k, ne-eqb _ _ e)
+
+  pub same-end : length a ≤ i → length b ≤ i → same (drop i a) (drop i b) ≡ true
+  unfolding same
+  same-end h k = rw (drop-of-length-le a h, drop-of-length-le b k)
+
+-- A keyword.
+module _ (s : List ℕ) (at : ℕ) (word : List ℕ) where
+  pub keyword-cut : length s < at + length word → refused 2 at ≡ keywordAt s at word
+  unfolding keywordAt require
+  keyword-cut h = rw (present-no s at (length word) h)
+
+  module _ (h : at + length word ≤ length s) {b : Bool} (e : b ≡ same (take (at + length word - at) (drop at s)) word) where
+    pub keyword-found : b ≡ true → done tt (at + length word) ≡ keywordAt s at word
+    unfolding keywordAt require
+    keyword-found g = rw (present-yes s at (length word) h, ← add-sub-cancel-left at (length word), sym e ∙ g)
+
+    pub keyword-wrong : b ≡ false → refused 3 at ≡ keywordAt s at word
+    unfolding keywordAt require
+    keyword-wrong g = rw (present-yes s at (length word) h, ← add-sub-cancel-left at (length word), sym e ∙ g)
+
+-- The version is 1.
+pub version-one : (v : ℕ) → v ≡ 1 → eqb 1 v ≡ true
+version-one v e = eq-eqb 1 v (sym e)
+
+pub version-other : (v : ℕ) → (v ≡ 1 → ⊥) → eqb 1 v ≡ false
+version-other v e = ne-eqb 1 v (λ g. e (sym g))
+
+pub ruleset one-laws = (version-one, version-other)

@@ -1,0 +1,116 @@
+-- A loop over a row of elements that a number tells apart.
+use Prim.Native.Nat.{ℕ, zero, suc, _+_, _-_, _≤_, _<_}
+use mathlib.Core.Path.{_≡_, refl, sym, _∙_, ap, fun-ext}
+use mathlib.Core.Bool.{Bool, true, false}
+use mathlib.Core.List.{List, [], _∷_, map}
+use native.Mathlib.Omega.{arith}
+use native.Mathlib.Nat.{zero-add}
+use Rattle.format.specs.Fields.{fresh}
+use lib.ListN.{length, take, set, replicate, length-set, length-replicate}
+use Rattle.format.specs.declared.Refusal.{Refusal}
+use Rattle.format.specs.Parsed.{Parsed, done, refused, andThen, making, rowAt}
+use Rattle.fields.specs.Seen.{unmarked, Tells}
+use Rattle.fields.specs.declared.NextRead
+use Rattle.fields.specs.declared.NextRead.{NextRead}
+use Rattle.fields.specs.declared.CountRead
+use Rattle.fields.specs.declared.CountRead.{CountRead}
+use Rattle.fields.specs.Views.{Element, Section, refusedBy, nextParsed, countParsed, forget}
+use Rattle.fields.proofs.Parsing.{Found, found, missed, making-making, row-end, row-step, row-stop, row-length}
+use Rattle.fields.proofs.SeenLaws.{tells-none, tells-mark, tells-nothing, tells-put}
+
+-- `left` elements are to come at `place`; `table` marks the numbers of those before, and with these `begun` have begun, of which `base` had before the row.
+pub record Row {A : Type 0} (p : List A → ℕ → Parsed A) (number : A → ℕ) (whole : Parsed (List A)) (base begun : ℕ) (table : List ℕ) (left place : ℕ) : Type 0 where
+  pub before : List A
+  pub counted : begun ≡ base + length before
+  pub sized : length table ≡ 256
+  pub marks : Tells (unmarked table) (map number before)
+  pub same : forget whole ≡ forget (rowAt p left before place)
+
+module _ {A : Type 0} (p : List A → ℕ → Parsed A) (number : A → ℕ) where
+  pub row-begin : (base n at : ℕ) → Row p number (rowAt p n [] at) base base (replicate 256 0) n at
+  row-begin base n at = record { before = []; counted = omega arith; sized = length-replicate {A = ℕ} 256 0; marks = tells-none 256; same = refl }
+
+  module _ {whole : Parsed (List A)} {base begun : ℕ} {table : List ℕ} {n at : ℕ} (r : Row p number whole base begun table n at) where
+    pub row-next : {v m : ℕ} → done v m ≡ making number (p (r .before) at) → 0 < n → v < 256 → Row p number whole base (begun + 1) (set table v 1) (n - 1) m
+    row-next {v} {m} e h k =
+        let f : Found number (p (r .before) at) v m = found number (p (r .before) at) e in
+        record {
+          before = f .value ∷ r .before;
+          counted = omega (arith, r .counted);
+          sized = length-set table v 1 ∙ r .sized;
+          marks = tells-mark table (map number (r .before)) v (omega (arith, r .sized)) (r .marks) (f .made);
+          same = r .same ∙ ap forget (row-step p n (r .before) at h (f .is)) ∙ making-making _ _ _;
+        }
+
+    pub row-last : n ≤ 0 → done tt at ≡ forget whole
+    unfolding making
+    row-last h = sym (r .same ∙ ap forget (row-end p n (r .before) at h))
+
+    pub row-refused : {k m : ℕ} → refused k m ≡ making number (p (r .before) at) → 0 < n → refused k m ≡ forget whole
+    unfolding making
+    row-refused e h = sym (r .same ∙ ap forget (row-stop p n (r .before) at h (missed number (p (r .before) at) e)))
+
+-- A row that was read to its end has as many elements as were asked for.
+module _ {A : Type 0} (p : List A → ℕ → Parsed A) (n at : ℕ) {x : NextRead} where
+  pub row-counted : (i : ℕ) {m : ℕ} {y : Parsed Element} → nextParsed x ≡ forget (rowAt p n [] at) → x ≡ NextRead.Next m → y ≡ done (record { id = i; instances = n }) m
+      → y ≡ making (λ xs. record { id = i; instances = length xs }) (rowAt p n [] at)
+  unfolding making
+  row-counted i {m} e h k =
+      let f : Found (λ _. tt) (rowAt p n [] at) tt m = found (λ _. tt) (rowAt p n [] at) (sym (ap nextParsed h) ∙ e) in
+      k ∙ sym (ap (making (λ xs. record { id = i; instances = length xs })) (f .is) ∙ ap (λ j. done (record { id = i; instances = j }) m) (row-length p n [] at (f .is)))
+
+  pub row-missed : {B : Type 0} (g : List A → B) {r : Refusal} {y : Parsed B} → nextParsed x ≡ forget (rowAt p n [] at) → x ≡ NextRead.Refused r → y ≡ refusedBy r → y ≡ making g (rowAt p n [] at)
+  unfolding making
+  row-missed g e h k = k ∙ sym (ap (making g) (missed (λ _. tt) (rowAt p n [] at) (sym (ap nextParsed h) ∙ e)))
+
+-- A loop over registers or nodes: `ids` holds the IDs of those before, of which there are `known`; these have `total` instances.
+pub record Elements {A : Type 0} (p : List A → ℕ → Parsed A) (id : A → ℕ) (totalOf : List A → ℕ) (whole : Parsed (List A)) (ids : List ℕ) (known total left place : ℕ) : Type 0 where
+  pub before : List A
+  pub told : Tells (fresh true (take known ids)) (map id before)
+  pub counted : total ≡ totalOf before
+  pub same : making totalOf whole ≡ making (λ xs. total + totalOf xs) (rowAt p left before place)
+
+module _ {A : Type 0} (p : List A → ℕ → Parsed A) (id size : A → ℕ) (totalOf : List A → ℕ) (nothing : totalOf [] ≡ 0) (another : (a : A) (xs : List A) → totalOf (a ∷ xs) ≡ size a + totalOf xs) where
+  pub elements-begin : (n at : ℕ) (ids : List ℕ) → Elements p id totalOf (rowAt p n [] at) ids 0 0 n at
+  elements-begin n at ids =
+      record { before = []; told = tells-nothing ids; counted = sym nothing; same = ap (λ g. making g (rowAt p n [] at)) (fun-ext (λ xs. sym (zero-add (totalOf xs)))) }
+
+  module _ {whole : Parsed (List A)} {ids : List ℕ} {known total n at : ℕ} (r : Elements p id totalOf whole ids known total n at) where
+    pub elements-next : {i k m : ℕ} → _≡_ {A = Parsed Element} (done (record { id = i; instances = k }) m) (making (λ a. record { id = id a; instances = size a }) (p (r .before) at)) → 0 < n → known < length ids
+        → Elements p id totalOf whole (set ids known i) (known + 1) (total + k) (n - 1) m
+    elements-next {i} {k} {m} e h l =
+        let f : Found {B = Element} (λ a. record { id = id a; instances = size a }) (p (r .before) at) (record { id = i; instances = k }) m = found _ (p (r .before) at) e in
+        let a = f .value in
+        let ei : id a ≡ i = ap (λ x. x .id) (f .made) in
+        let ek : size a ≡ k = ap (λ x. x .instances) (f .made) in
+        record {
+          before = a ∷ r .before;
+          told = tells-put ids (map id (r .before)) known i l (r .told) ei;
+          counted = omega (arith, another a (r .before), r .counted);
+          same = r .same ∙ ap (making (λ xs. total + totalOf xs)) (row-step p n (r .before) at h (f .is)) ∙ making-making _ _ _
+              ∙ ap (λ g. making g (rowAt p (n - 1) (a ∷ r .before) m)) (fun-ext (λ xs. omega (arith, another a xs)));
+        }
+
+    pub elements-last : n ≤ 0 → done total at ≡ making totalOf whole
+    unfolding making
+    elements-last h =
+        let e : total + totalOf [] ≡ total = omega (arith, nothing) in
+        sym (r .same ∙ ap (making (λ xs. total + totalOf xs)) (row-end p n (r .before) at h) ∙ ap (λ t. done t at) e)
+
+    pub elements-refused : {k m : ℕ} → _≡_ {A = Parsed Element} (refused k m) (making (λ a. record { id = id a; instances = size a }) (p (r .before) at)) → 0 < n → refused k m ≡ making totalOf whole
+    unfolding making
+    elements-refused e h = sym (r .same ∙ ap (making (λ xs. total + totalOf xs)) (row-stop p n (r .before) at h (missed _ (p (r .before) at) e)))
+
+-- A section of so many elements.
+module _ {A : Type 0} (p : List A → ℕ → Parsed A) (totalOf : List A → ℕ) (n at : ℕ) {x : CountRead} where
+  pub section-counted : {t m : ℕ} {y : Parsed Section} → countParsed x ≡ making totalOf (rowAt p n [] at) → x ≡ CountRead.Count t m → y ≡ done (record { elements = n; instances = t }) m
+      → y ≡ making (λ xs. record { elements = length xs; instances = totalOf xs }) (rowAt p n [] at)
+  unfolding making
+  section-counted {t} {m} {y} e h k =
+      let f : Found {B = ℕ} totalOf (rowAt p n [] at) t m = found totalOf (rowAt p n [] at) (sym (ap countParsed h) ∙ e) in
+      k ∙ sym (ap (making (λ xs. record { elements = length xs; instances = totalOf xs })) (f .is) ∙ cc (row-length p n [] at (f .is), f .made))
+
+  pub section-missed : {r : Refusal} {y : Parsed Section} → countParsed x ≡ making totalOf (rowAt p n [] at) → x ≡ CountRead.Refused r → y ≡ refusedBy r
+      → y ≡ making (λ xs. record { elements = length xs; instances = totalOf xs }) (rowAt p n [] at)
+  unfolding making
+  section-missed e h k = k ∙ sym (ap (making (λ xs. record { elements = length xs; instances = totalOf xs })) (missed totalOf (rowAt p n [] at) (sym (ap countParsed h) ∙ e)))

@@ -1,0 +1,109 @@
+-- The laws of marks and of lists of IDs.
+use Prim.Native.Nat.{ℕ, zero, suc, _+_, _-_, _≤_, _<_}
+use mathlib.Core.Path.{_≡_, refl, sym, _∙_, ap, fun-ext}
+use mathlib.Core.Bool.{Bool, true, false, not, _&&_, _||_}
+use mathlib.Core.List.{List, [], _∷_, _++_}
+use mathlib.Core.Logic.{_⊎_, ⊎-elim}
+use native.Mathlib.Omega.{arith}
+use native.Mathlib.Numerals.{add-one}
+use borrow.Author.Tests.{eq-eqb, ne-eqb}
+use lib.ListN.{length, take, drop, getD, set, replicate, getD-replicate, length-replicate, List·getD-eq-default, drop-of-length-le}
+use lib.Seq.{drop-cons, getD-set-same, getD-set-other, take-suc-set}
+use lib.Dec.{eqb}
+use Rattle.numbers.proofs.Bools.{either, clash, same?}
+use Rattle.format.specs.Fields.{member, fresh}
+use Rattle.fields.specs.Seen.{unmarked, instanceNumberAt, Tells}
+
+pub unmarked-beyond : (table : List ℕ) (x : ℕ) → length table ≤ x → false ≡ not (unmarked table x)
+unfolding unmarked
+unmarked-beyond table x h = ap (λ k. not (eqb k 0)) (sym (List·getD-eq-default table 0 h))
+
+-- A search for an ID from a place on.
+module _ (ids : List ℕ) (id i : ℕ) where
+  pub member-here : i < length ids → getD ids i 0 ≡ id → member id (drop i ids) ≡ true
+  unfolding member
+  member-here h e = rw (drop-cons ids i 0 h, eq-eqb id (getD ids i 0) (sym e))
+
+  pub member-on : i < length ids → (getD ids i 0 ≡ id → ⊥) → member id (drop (i + 1) ids) ≡ member id (drop i ids)
+  unfolding member
+  member-on h e = rw (add-one, drop-cons ids i 0 h, ne-eqb id (getD ids i 0) (λ g. e (sym g)))
+
+  pub member-end : length ids ≤ i → member id (drop i ids) ≡ false
+  unfolding member
+  member-end h = rw (drop-of-length-le ids h)
+
+-- What a mark or a list says of a number.
+module _ (table : List ℕ) (x : ℕ) {b : Bool} where
+  pub mark-none : b ≡ not (unmarked table x) → b ≡ false → unmarked table x ≡ true
+  mark-none e g = ⊎-elim (λ h. h) (λ h. clash (e ∙ ap not h) g) (either (unmarked table x))
+
+  pub mark-there : b ≡ not (unmarked table x) → b ≡ true → unmarked table x ≡ false
+  mark-there e g = ⊎-elim (λ h. clash g (e ∙ ap not h)) (λ h. h) (either (unmarked table x))
+
+pub fresh-new : (numbers : List ℕ) (x : ℕ) {b : Bool} → b ≡ member x numbers → b ≡ false → fresh true numbers x ≡ true
+unfolding fresh
+fresh-new numbers x e g = rw (sym e ∙ g)
+
+pub fresh-old : (numbers : List ℕ) (x : ℕ) {b : Bool} → b ≡ member x numbers → b ≡ true → fresh true numbers x ≡ false
+unfolding fresh
+fresh-old numbers x e g = rw (sym e ∙ g)
+
+pub ruleset seen-laws = (mark-none, mark-there, fresh-new, fresh-old)
+
+-- No number has come.
+pub tells-none : (n : ℕ) → Tells (unmarked (replicate n 0)) []
+unfolding unmarked fresh member
+tells-none n = record { tells = λ x. ap (λ v. eqb v 0) (go n x) }
+  where
+    go : (m x : ℕ) → _≡_ {A = ℕ} (getD (replicate m 0) x 0) 0
+    go zero x = refl
+    go (suc m) zero = refl
+    go (suc m) (suc x) = go m x
+
+-- A number comes, and is marked.
+module _ (table numbers : List ℕ) (v : ℕ) (h : v < length table) where
+  mark-same : unmarked (set table v 1) v ≡ fresh true (v ∷ numbers) v
+  unfolding unmarked fresh member
+  mark-same = ap (λ k. eqb k 0) (getD-set-same table v 1 0 h) ∙ sym (ap (λ b. not (b || member v numbers)) (eq-eqb v v refl))
+
+  mark-other : (x : ℕ) → (x ≡ v → ⊥) → unmarked table x ≡ fresh true numbers x → unmarked (set table v 1) x ≡ fresh true (v ∷ numbers) x
+  unfolding unmarked fresh member
+  mark-other x q e = ap (λ k. eqb k 0) (getD-set-other table v x 1 0 q) ∙ e ∙ sym (ap (λ b. not (b || member x numbers)) (ne-eqb x v q))
+
+  pub tells-mark : {w : ℕ} → Tells (unmarked table) numbers → w ≡ v → Tells (unmarked (set table v 1)) (w ∷ numbers)
+  tells-mark t e = rw e (record { tells = λ x. ⊎-elim (λ p. rw p mark-same) (λ q. mark-other x q (t .tells x)) (same? x v) })
+
+-- A test that tells which numbers are new stands for them.
+pub tells-is : {new : ℕ → Bool} {numbers : List ℕ} → Tells new numbers → new ≡ fresh true numbers
+tells-is t = fun-ext (t .tells)
+
+pub number-told : (s : List ℕ) (at : ℕ) {new : ℕ → Bool} {numbers : List ℕ} {begun m limit l : ℕ} → Tells new numbers → begun ≡ m → limit ≡ l
+    → instanceNumberAt s new begun limit at ≡ instanceNumberAt s (fresh true numbers) m l at
+number-told s at t e g = rw (tells-is t, e, g)
+
+-- An ID comes, and is put after those before it.
+member-end-is : (x v : ℕ) (ids : List ℕ) → member x (ids ++ (v ∷ [])) ≡ eqb x v || member x ids
+unfolding member
+member-end-is x v [] = refl
+member-end-is x v (i ∷ ids) = ap (λ b. eqb x i || b) (member-end-is x v ids) ∙ swap (eqb x i) (eqb x v) (member x ids)
+  where
+    swap : (a b d : Bool) → a || (b || d) ≡ b || (a || d)
+    swap true true d = refl
+    swap true false d = refl
+    swap false true d = refl
+    swap false false d = refl
+
+or-told : (a b d : Bool) → not b ≡ not d → not (a || b) ≡ not (a || d)
+or-told true b d e = refl
+or-told false b d e = e
+
+put-is : (ids numbers : List ℕ) (n v x : ℕ) → n < length ids → fresh true (take n ids) x ≡ fresh true numbers x → fresh true (take (suc n) (set ids n v)) x ≡ fresh true (v ∷ numbers) x
+unfolding fresh member
+put-is ids numbers n v x h g =
+    ap (λ l. not (member x l)) (take-suc-set ids n v h) ∙ ap not (member-end-is x v (take n ids)) ∙ or-told (eqb x v) (member x (take n ids)) (member x numbers) g
+
+pub tells-nothing : (ids : List ℕ) → Tells (fresh true (take 0 ids)) []
+tells-nothing ids = record { tells = λ x. refl }
+
+pub tells-put : (ids numbers : List ℕ) (n v : ℕ) {w : ℕ} → n < length ids → Tells (fresh true (take n ids)) numbers → w ≡ v → Tells (fresh true (take (n + 1) (set ids n v))) (w ∷ numbers)
+tells-put ids numbers n v h t e = rw (e, add-one) (record { tells = λ x. put-is ids numbers n v x h (t .tells x) })

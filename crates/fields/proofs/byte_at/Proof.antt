@@ -1,0 +1,14 @@
+use borrow.Author.Needs.{needs}
+use Rattle.fields.proofs.FieldLaws.{field-laws}
+use Rattle.fields.proofs.byte_at.Statement.{statement}
+use Rattle.fields.proofs.byte_at.Tie as tie
+
+pub byte-at-spec : {M : Type 1} → statement M
+byte-at-spec =
+    tie.close
+    (tie.spec
+    (λ c κs. search needs)
+    (λ c. search needs)
+    (λ c. search needs)
+    (λ c. search field-laws)
+    (λ c. search field-laws))

@@ -1,0 +1,21 @@
+-- What the reader keeps of the elements before, for number 7.
+use Prim.Native.Nat.{ℕ}
+use mathlib.Core.Bool.{Bool, true}
+use mathlib.Core.List.{List}
+use mathlib.Core.Path.{_≡_}
+use lib.ListN.{getD}
+use lib.Dec.{ltb, eqb}
+use Rattle.format.specs.Parsed.{Parsed, requiring}
+use Rattle.format.specs.Fields.{fieldAt, fresh}
+
+-- A table has a mark for each number that a byte holds; an unmarked number has not come yet.
+unfoldable pub unmarked : List ℕ → ℕ → Bool
+unmarked table x = eqb (getD table x 0) 0
+
+-- The number byte of an instance: 8 where `limit` instances have begun already, 7 where the number is not new.
+unfoldable pub instanceNumberAt : List ℕ → (ℕ → Bool) → ℕ → ℕ → ℕ → Parsed ℕ
+instanceNumberAt s new begun limit at = requiring new 7 at (requiring (λ n. ltb begun limit) 8 at (fieldAt s at 1))
+
+-- A test tells which numbers are new after those given.
+pub record Tells (new : ℕ → Bool) (numbers : List ℕ) : Type 0 where
+  pub tells : (x : ℕ) → new x ≡ fresh true numbers x

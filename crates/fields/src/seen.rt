@@ -1,0 +1,81 @@
+// What the reader keeps of the elements before: marks for numbers of one byte, and a list of IDs.
+use crate::ByteRead;
+use crate::attention_at;
+use crate::byte_at;
+use format::Kind;
+use format::Refusal;
+ghost use mathlib.Core.Bool.{not};
+ghost use mathlib.Core.Path.{_≡_};
+ghost use Rattle.format.specs.Fields.{member, attentionAt};
+ghost use Rattle.format.specs.Parsed.{requiring};
+ghost use Rattle.fields.specs.Seen.{unmarked, instanceNumberAt};
+ghost use Rattle.fields.specs.Views.{byteParsed};
+
+// Whether a number has a mark.
+pub fn is_marked(seen: &[u8], x: u8) -> bool
+    ensures { λ r. ⌜ r ≡ not (unmarked (now (seen .entry)) x) ⌝ }
+{
+    let i = x as usize;
+    if i < seen.len() {
+        return seen[i] != 0;
+    }
+    false
+}
+
+// Whether an ID stands in a list. It looks at each ID once, up to the one that is sought.
+pub fn contains(ids: &[u64], id: u64) -> bool
+    ensures { λ r. ⌜ r ≡ member id (now (ids .entry)) ⌝ }
+{
+    let mut i = 0;
+    while i < ids.len() {
+        if ids[i] == id {
+            return true;
+        }
+        i += 1;
+    }
+    false
+}
+
+// The number byte of an instance: `seen` marks the numbers before it, and `begun` instances stand before it in the file.
+pub fn instance_number_at(s: &[u8], at: usize, begun: usize, limit: usize, seen: &[u8]) -> ByteRead
+    ensures { λ r. ⌜ byteParsed r ≡ instanceNumberAt (now (s .entry)) (unmarked (now (seen .entry))) begun limit at ⌝ }
+{
+    let b = byte_at(s, at);
+    match b {
+        ByteRead::Byte(number, next) => {
+            if limit <= begun {
+                return ByteRead::Refused(Refusal {
+                    kind: Kind::TooManyInstances,
+                    place: at,
+                });
+            }
+            if is_marked(seen, number) {
+                return ByteRead::Refused(Refusal {
+                    kind: Kind::Duplicate,
+                    place: at,
+                });
+            }
+            ByteRead::Byte(number, next)
+        }
+        ByteRead::Refused(r) => ByteRead::Refused(r),
+    }
+}
+
+// An attention type that has no mark yet.
+pub fn new_attention_at(s: &[u8], at: usize, seen: &[u8]) -> ByteRead
+    ensures { λ r. ⌜ byteParsed r ≡ requiring (unmarked (now (seen .entry))) 7 at (attentionAt (now (s .entry)) at) ⌝ }
+{
+    let b = attention_at(s, at);
+    match b {
+        ByteRead::Byte(attention, next) => {
+            if is_marked(seen, attention) {
+                return ByteRead::Refused(Refusal {
+                    kind: Kind::Duplicate,
+                    place: at,
+                });
+            }
+            ByteRead::Byte(attention, next)
+        }
+        ByteRead::Refused(r) => ByteRead::Refused(r),
+    }
+}

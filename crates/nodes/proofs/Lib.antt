@@ -1,0 +1,2 @@
+-- The laws of the nodes section.
+pub mod NodeLaws

@@ -1,0 +1,159 @@
+-- The laws of the nodes section.
+use Prim.Native.Nat.{ℕ, zero, suc, _+_, _-_, _≤_, _<_}
+use mathlib.Core.Path.{_≡_, refl, sym, _∙_, ap}
+use mathlib.Core.Bool.{Bool, true, false}
+use mathlib.Core.List.{List, [], _∷_, map}
+use native.Mathlib.Omega.{arith}
+use borrow.Author.Tests.{ltb-true}
+use lib.ListN.{length}
+use lib.Dec.{ltb, eqb}
+use Rattle.format.specs.declared.Refusal.{Refusal}
+use Rattle.format.specs.Limits.{nodeLimit, levels}
+use Rattle.format.specs.Parsed.{Parsed, done, refused, andThen, making, requiring, rowAt}
+use Rattle.format.specs.Fields.{fieldAt, countAt, typeAt, attentionAt, fresh}
+use Rattle.format.specs.ExpressionLayout.{exprAt}
+use Rattle.format.specs.Tree.{Capture, Rule, Child, NodeInstance, Node}
+use Rattle.format.specs.NodeLayout.{NodeHead, InstanceHead, captureAt, ruleAt, childAt, instanceHeadAt, nodeInstanceAt, nodeTotal, nodeHeadAt, nodeAt}
+use Rattle.nodes.specs.declared.NodeHead as declared
+use Rattle.nodes.specs.declared.NodeHeadRead
+use Rattle.nodes.specs.declared.NodeHeadRead.{NodeHeadRead}
+use Rattle.nodes.specs.declared.InstanceHead as instance
+use Rattle.nodes.specs.declared.InstanceHeadRead
+use Rattle.nodes.specs.declared.InstanceHeadRead.{InstanceHeadRead}
+use Rattle.fields.specs.Seen.{unmarked, instanceNumberAt, Tells}
+use Rattle.nodes.specs.Nodes.{childBitAt, countsAt, nodeBodyAt}
+use Rattle.fields.specs.Views.{Element, refusedBy}
+use Rattle.nodes.specs.Nodes.{nodeHeadParsed, instanceHeadParsed, ruleAttention, childBit, nodeNumber, nodeId, nodeElement}
+use Rattle.fields.proofs.Parsing.{Found, found, followed, passed, making-after, making-making, row-length, row-bound}
+use Rattle.fields.proofs.Steps.{goes-making, stops-making}
+use Rattle.fields.proofs.SeenLaws.{number-told, tells-is}
+
+-- The limit of the code is the limit of the layout.
+pub node-limit : 256 ≡ nodeLimit
+unfolding nodeLimit
+node-limit = refl
+
+-- A capture does not look at those before.
+pub captures-blind : (s : List ℕ) (n at : ℕ) → rowAt (captureAt s) n [] at ≡ rowAt (λ before. captureAt s []) n [] at
+unfolding captureAt
+captures-blind s n at = refl
+
+-- A rule and a child after those that the marks tell of.
+pub rule-told : (g : Rule → ℕ) (s : List ℕ) (before : List Rule) (at : ℕ) (table : List ℕ) {y : Parsed ℕ} → Tells (unmarked table) (map ruleAttention before)
+    → y ≡ making g (andThen (requiring (unmarked table) 7 at (attentionAt s at)) λ t a. making (λ e. record { attention = t; place = a; expression = e }) (exprAt s levels a))
+    → y ≡ making g (ruleAt s true before at)
+unfolding ruleAt
+rule-told g s before at table t k = rw (← tells-is t) k
+
+pub child-told : (g : Child → ℕ) (s : List ℕ) (before : List Child) (at : ℕ) (table : List ℕ) {y : Parsed ℕ} → Tells (unmarked table) (map childBit before)
+    → y ≡ making g (andThen (childBitAt s (unmarked table) at) λ b a. andThen (fieldAt s a 2) λ i c. making (λ n. record { place = at; bit = b; id = i; number = n }) (fieldAt s c 1))
+    → y ≡ making g (childAt s true before at)
+unfolding childAt childBitAt
+child-told g s before at table t k = rw (← tells-is t) k
+
+-- The head of an instance after those that the marks tell of.
+pub head-told : (s : List ℕ) (numbers : List ℕ) (begun at : ℕ) (table : List ℕ) {y : Parsed InstanceHead} → Tells (unmarked table) numbers
+    → y ≡ andThen (instanceNumberAt s (unmarked table) begun 256 at) (λ n a. andThen (fieldAt s a 1) λ c b. countsAt s n c b)
+    → y ≡ instanceHeadAt s true begun numbers at
+unfolding instanceHeadAt instanceNumberAt countsAt
+head-told s numbers begun at table t k =
+    k ∙ ap (λ q. andThen q (λ n a. andThen (fieldAt s a 1) λ c b. countsAt s n c b)) (number-told s at t refl node-limit)
+
+-- An instance is its head and what follows.
+instance-body : {A B : Type 0} (p : Parsed A) (q : ℕ → Parsed B) (r : ℕ → Parsed (List Child)) (f : A → B → List Child → NodeInstance) (v : ℕ)
+    → ((a : A) (b : B) (c : List Child) → f a b c .number ≡ v)
+    → making nodeNumber (andThen p λ a m. andThen (q m) λ b n. making (f a b) (r n)) ≡ making (λ _. v) (andThen p λ a m. andThen (q m) λ b n. r n)
+unfolding andThen making
+instance-body (refused k i) q r f v e = refl
+instance-body {A} {B} (done a m) q r f v e = second (q m)
+  where
+    third : (b : B) (w : Parsed (List Child)) → making nodeNumber (making (f a b) w) ≡ making (λ _. v) w
+    third b (done c o) = ap (λ j. done j o) (e a b c)
+    third b (refused k i) = refl
+
+    second : (u : Parsed B) → making nodeNumber (andThen u λ b n. making (f a b) (r n)) ≡ making (λ _. v) (andThen u λ b n. r n)
+    second (done b n) = third b (r n)
+    second (refused k i) = refl
+
+module _ (s : List ℕ) (total : ℕ) (before : List NodeInstance) (at : ℕ) {begun : ℕ} {x : InstanceHeadRead} {y : Parsed ℕ} where
+  pub instance-told : {h : instance.InstanceHead} {a : ℕ} → begun ≡ total + length before → instanceHeadParsed x ≡ instanceHeadAt s true begun (map nodeNumber before) at → x ≡ InstanceHeadRead.Head h a
+      → y ≡ making (λ _. h .number) (nodeBodyAt s (h .captures) (h .rules) (h .children) a) → y ≡ making nodeNumber (nodeInstanceAt s true total before at)
+  unfolding nodeInstanceAt nodeBodyAt
+  instance-told {h} {a} e i g k = rw (← e) (goes-making instanceHeadParsed nodeNumber _ _ refl i g (k ∙ sym (instance-body _ _ _ _ (h .number) (λ x y z. refl))))
+
+  pub instance-stop : {r : Refusal} → begun ≡ total + length before → instanceHeadParsed x ≡ instanceHeadAt s true begun (map nodeNumber before) at → x ≡ InstanceHeadRead.Refused r → y ≡ refusedBy r
+      → y ≡ making nodeNumber (nodeInstanceAt s true total before at)
+  unfolding nodeInstanceAt
+  instance-stop e i g k = rw (← e) (stops-making instanceHeadParsed nodeNumber _ _ refl i g k)
+
+-- An instance that was read had room.
+pub instance-room : (g : NodeInstance → ℕ) (s : List ℕ) (total : ℕ) (before : List NodeInstance) (at : ℕ) {v m : ℕ}
+    → done v m ≡ making g (nodeInstanceAt s true total before at) → total + length before < 256
+unfolding nodeInstanceAt instanceHeadAt
+instance-room g s total before at {v} {m} e =
+    let q = requiring (λ n. ltb (total + length before) nodeLimit) 8 at (fieldAt s at 1) in
+    let f = found g (nodeInstanceAt s true total before at) e in
+    let d = followed (instanceHeadAt s true (total + length before) (map nodeNumber before) at) _ (f .is) in
+    let c = followed (requiring (fresh true (map nodeNumber before)) 7 at q) _ (d .is) in
+    let i : q ≡ done (c .value) (c .place) = passed (fresh true (map nodeNumber before)) 7 at q (c .is) .1 in
+    let j : ltb (total + length before) nodeLimit ≡ true = passed (λ n. ltb (total + length before) nodeLimit) 8 at (fieldAt s at 1) i .0 in
+    let k : total + length before < nodeLimit = ltb-true _ _ j in
+    omega (arith, node-limit)
+
+-- A node after those that the IDs tell of.
+pub node-told : (g : Node → Element) (s : List ℕ) (before : List Node) (at : ℕ) (ids : List ℕ) {total : ℕ} {y : Parsed Element}
+    → Tells (fresh true ids) (map nodeId before) → total ≡ nodeTotal before
+    → y ≡ making g (andThen (nodeHeadAt s true ids at) λ h a. making (λ is. record { id = h .id; type = h .type; instances = is }) (rowAt (nodeInstanceAt s true total) (h .count) [] a))
+    → y ≡ making g (nodeAt s true before at)
+unfolding nodeAt nodeHeadAt
+node-told g s before at ids {total} {y} t e k = rw (← e, ← tells-is t) k
+
+module _ {B : Type 0} (g : B → Element) (p : Parsed NodeHead) (f : NodeHead → ℕ → Parsed B) {y : Parsed Element} where
+  pub head-then : {x : NodeHeadRead} {h : declared.NodeHead} {n : ℕ} → nodeHeadParsed x ≡ p → x ≡ NodeHeadRead.Head h n
+      → y ≡ making g (f (record { id = h .id; type = h .kind; count = h .count }) n) → y ≡ making g (andThen p f)
+  head-then = goes-making nodeHeadParsed g p f refl
+
+  pub head-stop : {x : NodeHeadRead} {r : Refusal} → nodeHeadParsed x ≡ p → x ≡ NodeHeadRead.Refused r → y ≡ refusedBy r → y ≡ making g (andThen p f)
+  head-stop = stops-making nodeHeadParsed g p f refl
+
+-- A node that was read has at least one instance, and not too many.
+head-counted : (s : List ℕ) (ids : List ℕ) (at : ℕ) {h : NodeHead} {m : ℕ} → nodeHeadAt s true ids at ≡ done h m → 0 < h .count
+unfolding nodeHeadAt countAt
+head-counted s ids at {h} {m} e =
+    let d = followed (requiring (fresh true ids) 7 at (fieldAt s at 2)) _ e in
+    let c = followed (typeAt s (d .place)) _ (d .next) in
+    let f : Found (λ n. record { id = d .value; type = c .value; count = n }) (requiring (λ k. ltb 0 k) 5 (c .place) (fieldAt s (c .place) 1)) h m = found _ _ (sym (c .next)) in
+    let j : ltb 0 (f .value) ≡ true = passed (λ k. ltb 0 k) 5 (c .place) (fieldAt s (c .place) 1) (f .is) .0 in
+    let i : f .value ≡ h .count = ap (λ x. x .count) (f .made) in
+    let k : 0 < f .value = ltb-true _ _ j in
+    omega arith
+
+pub node-size : (s : List ℕ) (before : List Node) (at : ℕ) {i k m : ℕ} → done (record { id = i; instances = k }) m ≡ making nodeElement (nodeAt s true before at)
+    → (0 < k) × (nodeTotal before + k ≤ 256)
+unfolding nodeAt making
+node-size s before at {i} {k} {m} e =
+    let f : Found nodeElement (nodeAt s true before at) (record { id = i; instances = k }) m = found nodeElement (nodeAt s true before at) e in
+    let d = followed (nodeHeadAt s true (map nodeId before) at) _ (f .is) in
+    let h = d .value in
+    let w = rowAt (nodeInstanceAt s true (nodeTotal before)) (h .count) [] (d .place) in
+    let j : Found (λ is. record { id = h .id; type = h .type; instances = is }) w (f .value) m = found _ w (sym (d .next)) in
+    let l : length (j .value) ≡ h .count = row-length (nodeInstanceAt s true (nodeTotal before)) (h .count) [] (d .place) (j .is) in
+    let n : length (f .value .instances) ≡ k = ap (λ x. x .instances) (f .made) in
+    let o : j .value ≡ f .value .instances = ap (λ x. x .instances) (j .made) in
+    let c : 0 < h .count = head-counted s (map nodeId before) at (d .is) in
+    let b : nodeTotal before + 0 + h .count ≤ 256 =
+    row-bound (nodeInstanceAt s true (nodeTotal before)) (nodeTotal before) 256
+    (λ x y a z g. instance-room nodeNumber s (nodeTotal before) x y (sym (ap (making nodeNumber) g)))
+    (h .count) [] (d .place) (j .is) c in
+    let q : length (j .value) ≡ k = ap length o ∙ n in
+    (omega arith, omega arith)
+
+pub node-nothing : nodeTotal [] ≡ 0
+unfolding nodeTotal
+node-nothing = refl
+
+pub node-another : (n : Node) (ns : List Node) → nodeTotal (n ∷ ns) ≡ length (n .instances) + nodeTotal ns
+unfolding nodeTotal
+node-another n ns = refl
+
+pub ruleset node-laws = (rule-told, child-told, head-told, instance-told, instance-stop, node-told, head-then, head-stop)

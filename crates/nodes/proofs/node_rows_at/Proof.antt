@@ -1,0 +1,114 @@
+-- The invariant: `ids` and `total` are those of the nodes so far, and those that are left decide.
+use Prim.Native.Nat.{ℕ, _≤_, _<_}
+use lib.Seq.{length-take-le}
+use mathlib.Core.Bool.{true}
+use mathlib.Core.List.{[]}
+use mathlib.Core.Path.{_≡_, refl, sym, _∙_, ap}
+use native.Mathlib.Omega.{arith}
+use borrow.Author.Needs.{needs}
+use lib.ListN.{length, length-set, length-replicate}
+use Rattle.format.specs.Parsed.{rowAt}
+use Rattle.format.specs.NodeLayout.{nodeTotal, nodeAt}
+use Rattle.nodes.specs.Nodes.{nodeId}
+use Rattle.fields.specs.Views.{elementParsed}
+use Rattle.fields.proofs.RowLaws.{Elements, elements-begin, elements-next, elements-last, elements-refused}
+use Rattle.nodes.proofs.NodeLaws.{node-size, node-nothing, node-another}
+use Rattle.nodes.proofs.node_rows_at.Statement.{statement}
+use Rattle.nodes.proofs.node_rows_at.Tie as tie
+
+abbrev Inv-loop : tie.InvT-loop
+Inv-loop s at n ids₀ known₀ total₀ left₀ place₀ ids known total left place =
+    (length ids ≡ 256) × (known ≤ total) × (total ≤ 256) × Elements (nodeAt s true) nodeId nodeTotal (rowAt (nodeAt s true) n [] at) ids known total left place
+
+abbrev μ-loop : tie.MeasureT-loop
+μ-loop s at n ids₀ known₀ total₀ left₀ place₀ ids known total left place = left
+
+loop-holds : tie.Need-loop-holds Inv-loop μ-loop
+loop-holds c = (length-replicate {A = ℕ} 256 0, omega arith, omega arith, elements-begin _ _ _ _ node-nothing node-another _ _ _)
+
+array-share-prefix-ids : tie.Need-array-share-prefix-ids Inv-loop μ-loop
+array-share-prefix-ids c = omega arith
+
+slice-aggregate-node-at : tie.Need-slice-aggregate-node-at Inv-loop μ-loop
+slice-aggregate-node-at c =
+    let l = c .before .before .loop in
+    let h : l .known ≤ length (l .ids) = omega (arith, l .inv .0, l .inv .1, l .inv .2) in
+    sym (length-take-le _ _ h)
+
+node-at-requires : tie.Need-node-at-requires Inv-loop μ-loop
+node-at-requires c κs = search needs
+
+enum-known-e : tie.Need-enum-known-e Inv-loop μ-loop
+enum-known-e c = search needs
+
+mul-ids : tie.Need-mul-ids Inv-loop μ-loop
+mul-ids c = omega arith
+
+array-write-ids : tie.Need-array-write-ids Inv-loop μ-loop
+array-write-ids c =
+    let l = c .before .before .before .before .before .before .loop in
+    let x = l .inv .3 in
+    let h = node-size _ (x .before) _ (sym (ap elementParsed (c .before .e .given .1)) ∙ c .before .before .before .node-at .ensures (x .before) (x .told) (x .counted)) in
+    omega (arith, h .0, h .1, x .counted)
+
+cast-total : tie.Need-cast-total Inv-loop μ-loop
+cast-total c = search needs
+
+add-total : tie.Need-add-total Inv-loop μ-loop
+add-total c = omega arith
+
+enum-known-e-2 : tie.Need-enum-known-e-2 Inv-loop μ-loop
+enum-known-e-2 c = search needs
+
+returns : tie.Need-returns Inv-loop μ-loop
+returns c =
+    let l = c .before .before .before .before .before .before .loop in
+    let x = l .inv .3 in
+    elements-refused _ _ _ _ node-nothing node-another x (sym (ap elementParsed (c .before .e2 .given .1)) ∙ c .before .before .before .node-at .ensures (x .before) (x .told) (x .counted)) (c .before .before .before .before .before .loop-test .taken)
+
+add-known : tie.Need-add-known Inv-loop μ-loop
+add-known c = omega arith
+
+sub-left : tie.Need-sub-left Inv-loop μ-loop
+sub-left c = search needs
+
+loop-less : tie.Need-loop-less Inv-loop μ-loop
+loop-less c = search needs
+
+loop-again : tie.Need-loop-again Inv-loop μ-loop
+loop-again c =
+    let l = c .before .before .before .before .before .before .loop in
+    let x = l .inv .3 in
+    let h = node-size _ (x .before) _ (sym (ap elementParsed (c .before .e .given .1)) ∙ c .before .before .before .node-at .ensures (x .before) (x .told) (x .counted)) in
+    let k : l .known < length (l .ids) = omega (arith, h .0, h .1, x .counted) in (
+      length-set (l .ids) (l .known) (c .before .e .given .0 .0) ∙ l .inv .0,
+      omega (arith, h .0),
+      omega (arith, h .1, x .counted),
+      elements-next _ _ _ _ node-nothing node-another x (sym (ap elementParsed (c .before .e .given .1)) ∙ c .before .before .before .node-at .ensures (x .before) (x .told) (x .counted)) (c .before .before .before .before .before .loop-test .taken) k,
+    )
+
+returns-2 : tie.Need-returns-2 Inv-loop μ-loop
+returns-2 c = elements-last _ _ _ _ node-nothing node-another (c .before .loop .inv .3) (c .loop-test .left)
+
+pub node-rows-at-spec : {M : Type 1} → statement M
+node-rows-at-spec =
+    tie.close
+    (tie.spec
+    Inv-loop
+    μ-loop
+    loop-holds
+    array-share-prefix-ids
+    slice-aggregate-node-at
+    node-at-requires
+    enum-known-e
+    mul-ids
+    array-write-ids
+    cast-total
+    add-total
+    enum-known-e-2
+    returns
+    add-known
+    sub-left
+    loop-less
+    loop-again
+    returns-2)

@@ -1,0 +1,2 @@
+-- What the answers about nodes stand for.
+pub mod Nodes

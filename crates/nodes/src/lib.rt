@@ -1,0 +1,430 @@
+// The nodes section.
+use expressions::expression_at;
+use fields::ByteRead;
+use fields::CountRead;
+use fields::ElementRead;
+use fields::NextRead;
+use fields::NumberRead;
+use fields::SectionRead;
+use fields::byte_at;
+use fields::byte_count_at;
+use fields::keyword_at;
+use fields::number_at;
+use fields::number_count_at;
+use fields::seen::contains;
+use fields::seen::instance_number_at;
+use fields::seen::is_marked;
+use fields::seen::new_attention_at;
+use fields::type_at;
+use format::Kind;
+use format::Refusal;
+use numbers::Width;
+ghost use Prim.Native.Nat.{ℕ, _+_};
+ghost use mathlib.Core.Bool.{true};
+ghost use mathlib.Core.List.{List, [], map};
+ghost use mathlib.Core.Path.{_≡_};
+ghost use lib.ListN.{length};
+ghost use Rattle.format.specs.Fields.{fieldAt, fresh};
+ghost use Rattle.format.specs.Parsed.{making, requiring, rowAt};
+ghost use Rattle.format.specs.Tree.{Rule, Child, NodeInstance, Node};
+ghost use Rattle.format.specs.NodeLayout.{captureAt, ruleAt, childAt, instanceHeadAt, nodeInstanceAt, nodeTotal, nodeHeadAt, nodeAt, nodesAt};
+ghost use Rattle.fields.specs.Seen.{unmarked, Tells};
+ghost use Rattle.nodes.specs.Nodes.{childBitAt, countsAt, nodeBodyAt};
+ghost use Rattle.fields.specs.Views.{byteParsed, numberParsed, nextParsed, elementParsed, countParsed, sectionParsed, forget};
+ghost use Rattle.nodes.specs.Nodes.{instanceHeadParsed, nodeHeadParsed, ruleAttention, childBit, nodeNumber, nodeId, nodeElement, nodeSection};
+
+// What a node starts with.
+pub struct NodeHead {
+    pub id: u64,
+    pub kind: u8,
+    pub count: u8,
+}
+
+// A node's head with the place after it, or a refusal.
+pub enum NodeHeadRead {
+    Head(NodeHead, usize),
+    Refused(Refusal),
+}
+
+// What a node instance starts with.
+pub struct InstanceHead {
+    pub number: u8,
+    pub captures: u8,
+    pub rules: u8,
+    pub children: u8,
+}
+
+// A node instance's head with the place after it, or a refusal.
+pub enum InstanceHeadRead {
+    Head(InstanceHead, usize),
+    Refused(Refusal),
+}
+
+// A captured register: its ID and instance.
+fn capture_at(s: &[u8], at: usize) -> NextRead
+    ensures { λ r. ⌜ nextParsed r ≡ forget (captureAt (now (s .entry)) [] at) ⌝ }
+{
+    let i = number_at(s, at, Width::Three);
+    match i {
+        NumberRead::Number(_, a) => {
+            let n = byte_at(s, a);
+            match n {
+                ByteRead::Byte(_, end) => NextRead::Next(end),
+                ByteRead::Refused(r) => NextRead::Refused(r),
+            }
+        }
+        NumberRead::Refused(r) => NextRead::Refused(r),
+    }
+}
+
+// The captured registers of a node instance. It reads each once.
+fn captures_at(s: &[u8], at: usize, n: u8) -> NextRead
+    ensures { λ r. ⌜ nextParsed r ≡ forget (rowAt (captureAt (now (s .entry))) n [] at) ⌝ }
+{
+    let mut left = n;
+    let mut place = at;
+    while 0 < left {
+        let c = capture_at(s, place);
+        match c {
+            NextRead::Next(next) => {
+                place = next;
+            }
+            NextRead::Refused(r) => {
+                return NextRead::Refused(r);
+            }
+        }
+        left -= 1;
+    }
+    NextRead::Next(place)
+}
+
+// A rule: its attention type. `seen` marks the attention types of the rules before it.
+fn rule_at(s: &[u8], at: usize, seen: &[u8]) -> ByteRead
+    ensures { λ r. ⌜ ((before : List Rule) → Tells (unmarked (now (seen .entry))) (map ruleAttention before) → byteParsed r ≡ making ruleAttention (ruleAt (now (s .entry)) true before at)) ⌝ }
+{
+    let b = new_attention_at(s, at, seen);
+    match b {
+        ByteRead::Byte(attention, a) => {
+            let e = expression_at(s, a, format::LEVELS);
+            match e {
+                NextRead::Next(end) => ByteRead::Byte(attention, end),
+                NextRead::Refused(r) => ByteRead::Refused(r),
+            }
+        }
+        ByteRead::Refused(r) => ByteRead::Refused(r),
+    }
+}
+
+// The rules of a node instance. It reads each once.
+fn rules_at(s: &[u8], at: usize, n: u8) -> NextRead
+    ensures { λ r. ⌜ nextParsed r ≡ forget (rowAt (ruleAt (now (s .entry)) true) n [] at) ⌝ }
+{
+    let mut seen = [0u8; 256];
+    let mut left = n;
+    let mut place = at;
+    while 0 < left {
+        let i = rule_at(s, place, &seen);
+        match i {
+            ByteRead::Byte(attention, next) => {
+                seen[attention as usize] = 1;
+                place = next;
+            }
+            ByteRead::Refused(r) => {
+                return NextRead::Refused(r);
+            }
+        }
+        left -= 1;
+    }
+    NextRead::Next(place)
+}
+
+// The bit position of a child: 0 to 63. `seen` marks those before it.
+fn child_bit_at(s: &[u8], at: usize, seen: &[u8]) -> ByteRead
+    ensures { λ r. ⌜ byteParsed r ≡ childBitAt (now (s .entry)) (unmarked (now (seen .entry))) at ⌝ }
+{
+    let b = byte_at(s, at);
+    match b {
+        ByteRead::Byte(bit, next) => {
+            if 64 <= bit {
+                return ByteRead::Refused(Refusal {
+                    kind: Kind::BitTooHigh,
+                    place: at,
+                });
+            }
+            if is_marked(seen, bit) {
+                return ByteRead::Refused(Refusal {
+                    kind: Kind::Duplicate,
+                    place: at,
+                });
+            }
+            ByteRead::Byte(bit, next)
+        }
+        ByteRead::Refused(r) => ByteRead::Refused(r),
+    }
+}
+
+// A child: its bit position. `seen` marks the bits of the children before it.
+fn child_at(s: &[u8], at: usize, seen: &[u8]) -> ByteRead
+    ensures { λ r. ⌜ ((before : List Child) → Tells (unmarked (now (seen .entry))) (map childBit before) → byteParsed r ≡ making childBit (childAt (now (s .entry)) true before at)) ⌝ }
+{
+    let b = child_bit_at(s, at, seen);
+    match b {
+        ByteRead::Byte(bit, a) => {
+            let i = number_at(s, a, Width::Two);
+            match i {
+                NumberRead::Number(_, c) => {
+                    let n = byte_at(s, c);
+                    match n {
+                        ByteRead::Byte(_, end) => ByteRead::Byte(bit, end),
+                        ByteRead::Refused(r) => ByteRead::Refused(r),
+                    }
+                }
+                NumberRead::Refused(r) => ByteRead::Refused(r),
+            }
+        }
+        ByteRead::Refused(r) => ByteRead::Refused(r),
+    }
+}
+
+// The children of a node instance. It reads each once.
+fn children_at(s: &[u8], at: usize, n: u8) -> NextRead
+    ensures { λ r. ⌜ nextParsed r ≡ forget (rowAt (childAt (now (s .entry)) true) n [] at) ⌝ }
+{
+    let mut seen = [0u8; 256];
+    let mut left = n;
+    let mut place = at;
+    while 0 < left {
+        let i = child_at(s, place, &seen);
+        match i {
+            ByteRead::Byte(bit, next) => {
+                seen[bit as usize] = 1;
+                place = next;
+            }
+            ByteRead::Refused(r) => {
+                return NextRead::Refused(r);
+            }
+        }
+        left -= 1;
+    }
+    NextRead::Next(place)
+}
+
+// The rule count and the child count of a node instance whose number and capture count are known.
+fn counts_at(s: &[u8], at: usize, number: u8, captures: u8) -> InstanceHeadRead
+    ensures { λ r. ⌜ instanceHeadParsed r ≡ countsAt (now (s .entry)) number captures at ⌝ }
+{
+    let b = byte_count_at(s, at);
+    match b {
+        ByteRead::Byte(rules, a) => {
+            let c = byte_at(s, a);
+            match c {
+                ByteRead::Byte(children, end) => InstanceHeadRead::Head(
+                    InstanceHead {
+                        number,
+                        captures,
+                        rules,
+                        children,
+                    },
+                    end,
+                ),
+                ByteRead::Refused(r) => InstanceHeadRead::Refused(r),
+            }
+        }
+        ByteRead::Refused(r) => InstanceHeadRead::Refused(r),
+    }
+}
+
+// What a node instance starts with. `seen` marks the numbers before it in the node, and `begun` instances stand before it in the file.
+fn instance_head_at(s: &[u8], at: usize, begun: usize, seen: &[u8]) -> InstanceHeadRead
+    ensures { λ r. ⌜ ((numbers : List ℕ) → Tells (unmarked (now (seen .entry))) numbers → instanceHeadParsed r ≡ instanceHeadAt (now (s .entry)) true begun numbers at) ⌝ }
+{
+    let b = instance_number_at(s, at, begun, format::NODE_LIMIT, seen);
+    match b {
+        ByteRead::Byte(number, a) => {
+            let c = byte_at(s, a);
+            match c {
+                ByteRead::Byte(captures, d) => counts_at(s, d, number, captures),
+                ByteRead::Refused(r) => InstanceHeadRead::Refused(r),
+            }
+        }
+        ByteRead::Refused(r) => InstanceHeadRead::Refused(r),
+    }
+}
+
+// What follows the head of a node instance: so many captures, rules and children.
+fn node_body_at(s: &[u8], at: usize, h: InstanceHead) -> NextRead
+    ensures { λ r. ⌜ nextParsed r ≡ forget (nodeBodyAt (now (s .entry)) (h .captures) (h .rules) (h .children) at) ⌝ }
+{
+    let c = captures_at(s, at, h.captures);
+    match c {
+        NextRead::Next(a) => {
+            let r = rules_at(s, a, h.rules);
+            match r {
+                NextRead::Next(b) => children_at(s, b, h.children),
+                NextRead::Refused(x) => NextRead::Refused(x),
+            }
+        }
+        NextRead::Refused(x) => NextRead::Refused(x),
+    }
+}
+
+// A node instance: its number. `seen` marks the numbers before it in the node, and `begun` instances stand before it in the file.
+fn node_instance_at(s: &[u8], at: usize, begun: usize, seen: &[u8]) -> ByteRead
+    ensures { λ r. ⌜ ((total : ℕ) (before : List NodeInstance) → Tells (unmarked (now (seen .entry))) (map nodeNumber before) → begun ≡ total + length before → byteParsed r ≡ making nodeNumber (nodeInstanceAt (now (s .entry)) true total before at)) ⌝ }
+{
+    let top = instance_head_at(s, at, begun, seen);
+    match top {
+        InstanceHeadRead::Head(h, a) => {
+            let number = h.number;
+            let rest = node_body_at(s, a, h);
+            match rest {
+                NextRead::Next(end) => ByteRead::Byte(number, end),
+                NextRead::Refused(r) => ByteRead::Refused(r),
+            }
+        }
+        InstanceHeadRead::Refused(r) => ByteRead::Refused(r),
+    }
+}
+
+// The instances of a node; `total` instances stand before them in the file. It reads each once.
+fn node_instances_at(s: &[u8], at: usize, count: u8, total: usize) -> NextRead
+    ensures { λ r. ⌜ nextParsed r ≡ forget (rowAt (nodeInstanceAt (now (s .entry)) true total) count [] at) ⌝ }
+{
+    let mut seen = [0u8; 256];
+    let mut begun = total;
+    let mut left = count;
+    let mut place = at;
+    while 0 < left {
+        let i = node_instance_at(s, place, begun, &seen);
+        match i {
+            ByteRead::Byte(number, next) => {
+                seen[number as usize] = 1;
+                place = next;
+            }
+            ByteRead::Refused(r) => {
+                return NextRead::Refused(r);
+            }
+        }
+        begun += 1;
+        left -= 1;
+    }
+    NextRead::Next(place)
+}
+
+// The ID of a node: none of those before it.
+fn node_id_at(s: &[u8], at: usize, ids: &[u64]) -> NumberRead
+    ensures { λ r. ⌜ numberParsed r ≡ requiring (fresh true (now (ids .entry))) 7 at (fieldAt (now (s .entry)) at 2) ⌝ }
+{
+    let i = number_at(s, at, Width::Two);
+    match i {
+        NumberRead::Number(id, next) => {
+            if contains(ids, id) {
+                return NumberRead::Refused(Refusal {
+                    kind: Kind::Duplicate,
+                    place: at,
+                });
+            }
+            NumberRead::Number(id, next)
+        }
+        NumberRead::Refused(r) => NumberRead::Refused(r),
+    }
+}
+
+// What a node starts with; `ids` are the IDs of the nodes before it.
+fn node_head_at(s: &[u8], at: usize, ids: &[u64]) -> NodeHeadRead
+    ensures { λ r. ⌜ nodeHeadParsed r ≡ nodeHeadAt (now (s .entry)) true (now (ids .entry)) at ⌝ }
+{
+    let i = node_id_at(s, at, ids);
+    match i {
+        NumberRead::Number(id, a) => {
+            let t = type_at(s, a);
+            match t {
+                ByteRead::Byte(kind, b) => {
+                    let n = byte_count_at(s, b);
+                    match n {
+                        ByteRead::Byte(count, end) => NodeHeadRead::Head(
+                            NodeHead { id, kind, count },
+                            end,
+                        ),
+                        ByteRead::Refused(r) => NodeHeadRead::Refused(r),
+                    }
+                }
+                ByteRead::Refused(r) => NodeHeadRead::Refused(r),
+            }
+        }
+        NumberRead::Refused(r) => NodeHeadRead::Refused(r),
+    }
+}
+
+// A node: its ID and how many instances it has. `ids` are the IDs of the nodes before it, and `total` is how many instances these have.
+fn node_at(s: &[u8], at: usize, ids: &[u64], total: usize) -> ElementRead
+    ensures { λ r. ⌜ ((before : List Node) → Tells (fresh true (now (ids .entry))) (map nodeId before) → total ≡ nodeTotal before → elementParsed r ≡ making nodeElement (nodeAt (now (s .entry)) true before at)) ⌝ }
+{
+    let top = node_head_at(s, at, ids);
+    match top {
+        NodeHeadRead::Head(h, a) => {
+            let id = h.id;
+            let count = h.count;
+            let rest = node_instances_at(s, a, count, total);
+            match rest {
+                NextRead::Next(end) => ElementRead::Element(id, count, end),
+                NextRead::Refused(r) => ElementRead::Refused(r),
+            }
+        }
+        NodeHeadRead::Refused(r) => ElementRead::Refused(r),
+    }
+}
+
+// So many nodes: how many instances they have. It reads each node once, and looks for its ID among those before it.
+fn node_rows_at(s: &[u8], at: usize, n: u64) -> CountRead
+    ensures { λ r. ⌜ countParsed r ≡ making nodeTotal (rowAt (nodeAt (now (s .entry)) true) n [] at) ⌝ }
+{
+    let mut ids = [0u64; format::NODE_LIMIT];
+    let mut known = 0;
+    let mut total = 0;
+    let mut left = n;
+    let mut place = at;
+    while 0 < left {
+        let e = node_at(s, place, &ids[..known], total);
+        match e {
+            ElementRead::Element(id, count, next) => {
+                ids[known] = id;
+                total += count as usize;
+                place = next;
+            }
+            ElementRead::Refused(r) => {
+                return CountRead::Refused(r);
+            }
+        }
+        known += 1;
+        left -= 1;
+    }
+    CountRead::Count(total, place)
+}
+
+// The nodes section.
+pub fn nodes_at(s: &[u8], at: usize) -> SectionRead
+    ensures { λ r. ⌜ sectionParsed r ≡ making nodeSection (nodesAt (now (s .entry)) true at) ⌝ }
+{
+    let k = keyword_at(s, at, &format::NODE);
+    match k {
+        NextRead::Next(a) => {
+            let c = number_count_at(s, a, Width::Two);
+            match c {
+                NumberRead::Number(n, b) => {
+                    let rows = node_rows_at(s, b, n);
+                    match rows {
+                        CountRead::Count(total, end) => SectionRead::Section(
+                            n as usize,
+                            total,
+                            end,
+                        ),
+                        CountRead::Refused(r) => SectionRead::Refused(r),
+                    }
+                }
+                NumberRead::Refused(r) => SectionRead::Refused(r),
+            }
+        }
+        NextRead::Refused(r) => SectionRead::Refused(r),
+    }
+}

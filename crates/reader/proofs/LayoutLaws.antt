@@ -1,0 +1,104 @@
+-- The layout of a file and the file's tree.
+use Prim.Native.Nat.{ℕ, zero, suc, _+_}
+use mathlib.Core.Path.{_≡_, refl, sym, _∙_, ap}
+use mathlib.Core.Bool.{true}
+use mathlib.Core.List.{List, [], _∷_, _++_, map}
+use native.Mathlib.Omega.{arith}
+use lib.ListN.{length, length-append, length-map}
+use Rattle.format.specs.declared.Refusal.{Refusal}
+use Rattle.format.specs.Parsed.{Parsed, done, refused, andThen, making}
+use Rattle.format.specs.Lookup.{gathered, entriesOf, registerEntries, nodeEntriesOf, nodeEntries}
+use Rattle.format.specs.Refusals.{CheckValues, acceptedWith}
+use Rattle.format.specs.RegisterLayout.{registerTotal, registersAt}
+use Rattle.format.specs.NodeLayout.{nodeTotal, nodesAt}
+use Rattle.format.specs.FileLayout.{startAt, rootsAt, fileAt}
+use Rattle.format.specs.Tree.{Register, Node, Root, Chip}
+use Rattle.fields.specs.declared.SectionRead
+use Rattle.fields.specs.declared.SectionRead.{SectionRead}
+use Rattle.fields.specs.declared.ByteRead
+use Rattle.fields.specs.declared.ByteRead.{ByteRead}
+use Rattle.reader.specs.Layout.{Summary, summary, layoutAt, layoutValues, chipValues}
+use Rattle.fields.specs.Views.{Section, refusedBy, byteParsed, sectionParsed}
+use Rattle.registers.specs.Registers.{registerSection}
+use Rattle.nodes.specs.Nodes.{nodeSection}
+use Rattle.fields.proofs.Parsing.{Found, found, missed, followed, making-after, making-making}
+
+-- A section, of which the counts are kept, and what follows it.
+module _ {A B : Type 0} (g : A → Section) (p : Parsed A) (f : A → ℕ → Parsed B) {x : SectionRead} {y : Parsed B} where
+  pub section-then : {e i n : ℕ} → sectionParsed x ≡ making g p → x ≡ SectionRead.Section e i n → ((a : A) → g a ≡ record { elements = e; instances = i } → y ≡ f a n) → y ≡ andThen p f
+  unfolding andThen
+  section-then {e} {i} {n} h j k =
+      let d : Found {B = Section} g p (record { elements = e; instances = i }) n = found g p (sym (ap sectionParsed j) ∙ h) in
+      k (d .value) (d .made) ∙ sym (ap (λ q. andThen q f) (d .is))
+
+  pub section-stop : {r : Refusal} → sectionParsed x ≡ making g p → x ≡ SectionRead.Refused r → y ≡ refusedBy r → y ≡ andThen p f
+  unfolding andThen
+  section-stop h j k = k ∙ sym (ap (λ q. andThen q f) (missed g p (sym (ap sectionParsed j) ∙ h)))
+
+-- The last section, of which the count is kept.
+module _ {A B : Type 0} (g : A → ℕ) (h : A → B) (p : Parsed A) {x : ByteRead} {y : Parsed B} where
+  pub last-makes : {t n : ℕ} → byteParsed x ≡ making g p → x ≡ ByteRead.Byte t n → ((a : A) → g a ≡ t → y ≡ done (h a) n) → y ≡ making h p
+  unfolding making
+  last-makes {t} {n} e j k =
+      let d : Found g p t n = found g p (sym (ap byteParsed j) ∙ e) in
+      k (d .value) (d .made) ∙ sym (ap (making h) (d .is))
+
+  pub last-no : {r : Refusal} → byteParsed x ≡ making g p → x ≡ ByteRead.Refused r → y ≡ refusedBy r → y ≡ making h p
+  unfolding making
+  last-no e j k = k ∙ sym (ap (making h) (missed g p (sym (ap byteParsed j) ∙ e)))
+
+-- The counts are those of the elements.
+pub summary-is : (m : ℕ) (rs : List Register) (ns : List Node) (ts : List Root) (a b c end : ℕ) {e i f j t : ℕ}
+    → registerSection rs ≡ record { elements = e; instances = i } → nodeSection ns ≡ record { elements = f; instances = j } → length ts ≡ t
+    → _≡_ {A = Parsed Summary}
+    (done (record { model = m; registers = e; registerInstances = i; nodes = f; nodeInstances = j; roots = t; registersPlace = a; nodesPlace = b; rootsPlace = c }) end)
+    (done (summary m rs ns ts a b c) end)
+summary-is m rs ns ts a b c end {e} {i} {f} {j} {t} p q r =
+    let pe : length rs ≡ e = ap (λ x. x .elements) p in
+    let pi : registerTotal rs ≡ i = ap (λ x. x .instances) p in
+    let qe : length ns ≡ f = ap (λ x. x .elements) q in
+    let qi : nodeTotal ns ≡ j = ap (λ x. x .instances) q in
+    rw (pe, pi, qe, qi, r)
+
+-- The instances in file order are as many as the registers and the nodes have.
+register-entries : (rs : List Register) → length (gathered entriesOf rs) ≡ registerTotal rs
+unfolding gathered entriesOf registerTotal
+register-entries [] = refl
+register-entries (r ∷ rs) = simp (length-append, length-map, register-entries rs)
+
+node-entries : (ns : List Node) → length (gathered nodeEntriesOf ns) ≡ nodeTotal ns
+unfolding gathered nodeEntriesOf nodeTotal
+node-entries [] = refl
+node-entries (n ∷ ns) = simp (length-append, length-map, node-entries ns)
+
+-- The layout is the file's tree, summarised: the same refusals, the same end, and the checker's values.
+pub layout-file : (s : List ℕ) (at : ℕ) → making layoutValues (layoutAt s at) ≡ making chipValues (fileAt s true at)
+unfolding layoutAt fileAt registerEntries nodeEntries
+layout-file s at = simp (making-after, making-making, register-entries, node-entries)
+
+-- A layout that was read: the file's tree, and its sections at the places that the layout names.
+pub record Sections (s : List ℕ) (at : ℕ) (l : Summary) (end : ℕ) : Type 0 where
+  pub chip : Chip
+  pub file : fileAt s true at ≡ done chip end
+  pub start : startAt s at ≡ done (chip .model) (l .registersPlace)
+  pub registers : registersAt s true (l .registersPlace) ≡ done (chip .registers) (l .nodesPlace)
+  pub nodes : nodesAt s true (l .nodesPlace) ≡ done (chip .nodes) (l .rootsPlace)
+  pub roots : rootsAt s true (l .rootsPlace) ≡ done (chip .roots) end
+  pub summed : l ≡ summary (chip .model) (chip .registers) (chip .nodes) (chip .roots) (l .registersPlace) (l .nodesPlace) (l .rootsPlace)
+
+read-is : (s : List ℕ) (at m : ℕ) (rs : List Register) (ns : List Node) (ts : List Root) (a b c : ℕ) {l : Summary} {end : ℕ}
+    → startAt s at ≡ done m a → registersAt s true a ≡ done rs b → nodesAt s true b ≡ done ns c → rootsAt s true c ≡ done ts end
+    → summary m rs ns ts a b c ≡ l → Sections s at l end
+unfolding fileAt andThen making
+read-is s at m rs ns ts a b c {l} {end} p q r t e =
+    rw (← e)
+    (record { chip = record { model = m; registers = rs; nodes = ns; roots = ts }; file = rw (p, q, r, t); start = p; registers = q; nodes = r; roots = t; summed = refl })
+
+pub sections : (s : List ℕ) (at : ℕ) {l : Summary} {end : ℕ} → layoutAt s at ≡ done l end → Sections s at l end
+unfolding layoutAt
+sections s at {l} {end} e =
+    let d = followed (startAt s at) _ e in
+    let c = followed (registersAt s true (d .place)) _ (d .next) in
+    let b = followed (nodesAt s true (c .place)) _ (c .next) in
+    let f : Found (λ ts. summary (d .value) (c .value) (b .value) ts (d .place) (c .place) (b .place)) (rootsAt s true (b .place)) l end = found _ _ (sym (b .next)) in
+    read-is s at (d .value) (c .value) (b .value) (f .value) (d .place) (c .place) (b .place) (d .is) (c .is) (b .is) (f .is) (f .made)

@@ -1,0 +1,3 @@
+-- The laws of the roots section and of a whole file.
+pub mod RootLaws
+pub mod LayoutLaws

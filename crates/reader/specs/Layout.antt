@@ -1,0 +1,49 @@
+-- The layout of a whole file as the reader keeps it: what it holds, and where its sections begin.
+use Prim.Native.Nat.{ℕ}
+use mathlib.Core.Bool.{true}
+use mathlib.Core.List.{List}
+use lib.ListN.{length}
+use Rattle.format.specs.Parsed.{Parsed, done, refused, andThen, making}
+use Rattle.format.specs.RegisterLayout.{registerTotal, registersAt}
+use Rattle.format.specs.NodeLayout.{nodeTotal, nodesAt}
+use Rattle.format.specs.FileLayout.{startAt, rootsAt}
+use Rattle.format.specs.Tree.{Register, Node, Root, Chip}
+use Rattle.format.specs.Refusals.{CheckValues, acceptedWith}
+use Rattle.format.specs.Lookup.{registerEntries, nodeEntries}
+use Rattle.reader.specs.declared.LayoutRead
+use Rattle.reader.specs.declared.LayoutRead.{LayoutRead}
+use Rattle.fields.specs.Views.{refusedBy}
+
+-- Counts, the places of the three section keywords, and the place after the last root.
+pub record Summary : Type 0 where
+  pub model : ℕ
+  pub registers : ℕ
+  pub registerInstances : ℕ
+  pub nodes : ℕ
+  pub nodeInstances : ℕ
+  pub roots : ℕ
+  pub registersPlace : ℕ
+  pub nodesPlace : ℕ
+  pub rootsPlace : ℕ
+
+abbrev pub layoutParsed : LayoutRead → Parsed Summary
+layoutParsed (LayoutRead.Done l) =
+    done (record { model = l .model; registers = l .registers; registerInstances = l .«register_instances»; nodes = l .nodes; nodeInstances = l .«node_instances»; roots = l .roots; registersPlace = l .«registers_at»; nodesPlace = l .«nodes_at»; rootsPlace = l .«roots_at» }) (l .end)
+layoutParsed (LayoutRead.Refused r) = refusedBy r
+
+abbrev pub summary : ℕ → List Register → List Node → List Root → ℕ → ℕ → ℕ → Summary
+summary m rs ns ts a b c =
+    record { model = m; registers = length rs; registerInstances = registerTotal rs; nodes = length ns; nodeInstances = nodeTotal ns; roots = length ts; registersPlace = a; nodesPlace = b; rootsPlace = c }
+
+-- The start, the registers, the nodes and the roots, one after another.
+unfoldable pub layoutAt : List ℕ → ℕ → Parsed Summary
+layoutAt s at =
+    andThen (startAt s at) λ m a. andThen (registersAt s true a) λ rs b. andThen (nodesAt s true b) λ ns c.
+    making (λ ts. summary m rs ns ts a b c) (rootsAt s true c)
+
+-- The checker's values of a layout and of a file's tree.
+abbrev pub layoutValues : Summary → CheckValues
+layoutValues l = acceptedWith (l .model) (l .registers) (l .registerInstances) (l .nodes) (l .nodeInstances) (l .roots)
+
+abbrev pub chipValues : Chip → CheckValues
+chipValues c = acceptedWith (c .model) (length (c .registers)) (length (registerEntries c)) (length (c .nodes)) (length (nodeEntries c)) (length (c .roots))

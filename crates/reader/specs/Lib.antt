@@ -1,0 +1,3 @@
+-- What the answers about a whole file stand for.
+pub mod Roots
+pub mod Layout

@@ -1,0 +1,52 @@
+// The layout of a whole file.
+use crate::Layout;
+use crate::LayoutRead;
+use crate::roots::roots_at;
+use crate::roots::start_at;
+use fields::ByteRead;
+use fields::NumberRead;
+use fields::SectionRead;
+use nodes::nodes_at;
+use registers::registers_at;
+ghost use mathlib.Core.Path.{_≡_};
+ghost use Rattle.reader.specs.Layout.{layoutParsed, layoutAt};
+
+// The layout of a file that starts at the slice's first byte. It reads each byte of the file at most once; number 7 costs a look at the IDs before each register and node.
+pub fn layout(s: &[u8]) -> LayoutRead
+    ensures { λ r. ⌜ layoutParsed r ≡ layoutAt (now (s .entry)) 0 ⌝ }
+{
+    let start = start_at(s, 0);
+    match start {
+        NumberRead::Number(model, a) => {
+            let first = registers_at(s, a);
+            match first {
+                SectionRead::Section(registers, register_instances, b) => {
+                    let second = nodes_at(s, b);
+                    match second {
+                        SectionRead::Section(nodes, node_instances, c) => {
+                            let third = roots_at(s, c);
+                            match third {
+                                ByteRead::Byte(roots, end) => LayoutRead::Done(Layout {
+                                    model,
+                                    registers,
+                                    register_instances,
+                                    nodes,
+                                    node_instances,
+                                    roots: roots as usize,
+                                    registers_at: a,
+                                    nodes_at: b,
+                                    roots_at: c,
+                                    end,
+                                }),
+                                ByteRead::Refused(r) => LayoutRead::Refused(r),
+                            }
+                        }
+                        SectionRead::Refused(r) => LayoutRead::Refused(r),
+                    }
+                }
+                SectionRead::Refused(r) => LayoutRead::Refused(r),
+            }
+        }
+        NumberRead::Refused(r) => LayoutRead::Refused(r),
+    }
+}

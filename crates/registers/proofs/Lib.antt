@@ -1,0 +1,2 @@
+-- The laws of the registers section.
+pub mod RegisterLaws

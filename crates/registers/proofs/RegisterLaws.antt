@@ -1,0 +1,121 @@
+-- The laws of the registers section.
+use Prim.Native.Nat.{ℕ, zero, suc, _+_, _-_, _≤_, _<_}
+use mathlib.Core.Path.{_≡_, refl, sym, _∙_, ap}
+use mathlib.Core.Bool.{Bool, true, false}
+use mathlib.Core.List.{List, [], _∷_, map}
+use native.Mathlib.Omega.{arith}
+use borrow.Author.Tests.{ltb-true, eq-eqb, ne-eqb}
+use lib.ListN.{length}
+use lib.Dec.{ltb, eqb}
+use Rattle.format.specs.Limits.{registerLimit}
+use Rattle.format.specs.declared.Refusal.{Refusal}
+use Rattle.format.specs.Parsed.{Parsed, done, refused, andThen, making, requiring, rowAt}
+use Rattle.format.specs.Fields.{fieldAt, countAt, typeAt, flagsAt, addressSize, fresh}
+use Rattle.registers.specs.declared.RegisterHead as declared
+use Rattle.registers.specs.declared.RegisterHeadRead
+use Rattle.registers.specs.declared.RegisterHeadRead.{RegisterHeadRead}
+use Rattle.fields.specs.declared.NumberRead
+use Rattle.fields.specs.declared.NumberRead.{NumberRead}
+use Rattle.format.specs.Tree.{RegisterInstance, Register}
+use Rattle.format.specs.RegisterLayout.{RegisterHead, registerTotal, registerInstanceAt, registerHeadAt, registerAt, registersAt}
+use Rattle.fields.specs.Seen.{unmarked, instanceNumberAt, Tells}
+use Rattle.fields.specs.Views.{Element, refusedBy, numberParsed}
+use Rattle.registers.specs.Registers.{registerHeadParsed, registerNumber, registerId, registerElement}
+use Rattle.fields.proofs.Parsing.{Found, found, followed, passed, row-length, row-bound}
+use Rattle.fields.proofs.Steps.{goes-making, stops-making}
+use Rattle.fields.proofs.SeenLaws.{number-told, tells-is}
+
+module _ (s : List ℕ) (at t : ℕ) {y : Parsed ℕ} where
+  pub address-four : t ≡ 1 → y ≡ fieldAt s at 4 → y ≡ fieldAt s at (addressSize t)
+  unfolding addressSize
+  address-four e k = rw (eq-eqb t 1 e) k
+
+  pub address-eight : (t ≡ 1 → ⊥) → y ≡ fieldAt s at 8 → y ≡ fieldAt s at (addressSize t)
+  unfolding addressSize
+  address-eight e k = rw (ne-eqb t 1 e) k
+
+-- The limit of the code is the limit of the layout.
+pub register-limit : 1024 ≡ registerLimit
+unfolding registerLimit
+register-limit = refl
+
+-- A register instance after those that the marks tell of.
+pub instance-told : (g : RegisterInstance → ℕ) (s : List ℕ) (total type : ℕ) (before : List RegisterInstance) (at : ℕ) (table : List ℕ) {begun : ℕ} {y : Parsed ℕ}
+    → Tells (unmarked table) (map registerNumber before) → begun ≡ total + length before
+    → y ≡ making g (andThen (instanceNumberAt s (unmarked table) begun 1024 at) λ n a. making (λ x. record { number = n; place = a; address = x }) (fieldAt s a (addressSize type)))
+    → y ≡ making g (registerInstanceAt s true total type before at)
+unfolding registerInstanceAt instanceNumberAt
+instance-told g s total type before at table t e k =
+    k ∙ ap (λ q. making g (andThen q λ n a. making (λ x. record { number = n; place = a; address = x }) (fieldAt s a (addressSize type)))) (number-told s at t e register-limit)
+
+-- An instance that was read had room.
+pub instance-room : (g : RegisterInstance → ℕ) (s : List ℕ) (total type : ℕ) (before : List RegisterInstance) (at : ℕ) {v m : ℕ}
+    → done v m ≡ making g (registerInstanceAt s true total type before at) → total + length before < 1024
+unfolding registerInstanceAt
+instance-room g s total type before at {v} {m} e =
+    let q = requiring (λ n. ltb (total + length before) registerLimit) 8 at (fieldAt s at 1) in
+    let f = found g (registerInstanceAt s true total type before at) e in
+    let d = followed (requiring (fresh true (map registerNumber before)) 7 at q) _ (f .is) in
+    let i : q ≡ done (d .value) (d .place) = passed (fresh true (map registerNumber before)) 7 at q (d .is) .1 in
+    let j : ltb (total + length before) registerLimit ≡ true = passed (λ n. ltb (total + length before) registerLimit) 8 at (fieldAt s at 1) i .0 in
+    let k : total + length before < registerLimit = ltb-true _ _ j in
+    omega (arith, register-limit)
+
+-- A register after those that the IDs tell of.
+pub register-told : (g : Register → Element) (s : List ℕ) (before : List Register) (at : ℕ) (ids : List ℕ) {total : ℕ} {y : Parsed Element}
+    → Tells (fresh true ids) (map registerId before) → total ≡ registerTotal before
+    → y ≡ making g (andThen (registerHeadAt s true ids at) λ h a. making (λ is. record { id = h .id; type = h .type; flags = h .flags; instances = is }) (rowAt (registerInstanceAt s true total (h .type)) (h .count) [] a))
+    → y ≡ making g (registerAt s true before at)
+unfolding registerAt registerHeadAt
+register-told g s before at ids {total} {y} t e k = rw (← e, ← tells-is t) k
+
+module _ {B : Type 0} (g : B → Element) (p : Parsed RegisterHead) (f : RegisterHead → ℕ → Parsed B) {y : Parsed Element} where
+  pub head-then : {x : RegisterHeadRead} {h : declared.RegisterHead} {n : ℕ} → registerHeadParsed x ≡ p → x ≡ RegisterHeadRead.Head h n
+      → y ≡ making g (f (record { id = h .id; type = h .kind; flags = h .flags; count = h .count }) n) → y ≡ making g (andThen p f)
+  head-then = goes-making registerHeadParsed g p f refl
+
+  pub head-stop : {x : RegisterHeadRead} {r : Refusal} → registerHeadParsed x ≡ p → x ≡ RegisterHeadRead.Refused r → y ≡ refusedBy r → y ≡ making g (andThen p f)
+  head-stop = stops-making registerHeadParsed g p f refl
+
+-- A register that was read has at least one instance, and not too many.
+head-counted : (s : List ℕ) (ids : List ℕ) (at : ℕ) {h : RegisterHead} {m : ℕ} → registerHeadAt s true ids at ≡ done h m → 0 < h .count
+unfolding registerHeadAt countAt
+head-counted s ids at {h} {m} e =
+    let d = followed (requiring (fresh true ids) 7 at (fieldAt s at 3)) _ e in
+    let c = followed (typeAt s (d .place)) _ (d .next) in
+    let b = followed (flagsAt s (c .place)) _ (c .next) in
+    let f : Found (λ n. record { id = d .value; type = c .value; flags = b .value; count = n }) (requiring (λ k. ltb 0 k) 5 (b .place) (fieldAt s (b .place) 1)) h m = found _ _ (sym (b .next)) in
+    let j : ltb 0 (f .value) ≡ true = passed (λ k. ltb 0 k) 5 (b .place) (fieldAt s (b .place) 1) (f .is) .0 in
+    let i : f .value ≡ h .count = ap (λ x. x .count) (f .made) in
+    let k : 0 < f .value = ltb-true _ _ j in
+    omega arith
+
+pub register-size : (s : List ℕ) (before : List Register) (at : ℕ) {i k m : ℕ} → done (record { id = i; instances = k }) m ≡ making registerElement (registerAt s true before at)
+    → (0 < k) × (registerTotal before + k ≤ 1024)
+unfolding registerAt making
+register-size s before at {i} {k} {m} e =
+    let f : Found registerElement (registerAt s true before at) (record { id = i; instances = k }) m = found registerElement (registerAt s true before at) e in
+    let d = followed (registerHeadAt s true (map registerId before) at) _ (f .is) in
+    let h = d .value in
+    let w = rowAt (registerInstanceAt s true (registerTotal before) (h .type)) (h .count) [] (d .place) in
+    let j : Found (λ is. record { id = h .id; type = h .type; flags = h .flags; instances = is }) w (f .value) m = found _ w (sym (d .next)) in
+    let l : length (j .value) ≡ h .count = row-length (registerInstanceAt s true (registerTotal before) (h .type)) (h .count) [] (d .place) (j .is) in
+    let n : length (f .value .instances) ≡ k = ap (λ x. x .instances) (f .made) in
+    let o : j .value ≡ f .value .instances = ap (λ x. x .instances) (j .made) in
+    let c : 0 < h .count = head-counted s (map registerId before) at (d .is) in
+    let b : registerTotal before + 0 + h .count ≤ 1024 =
+    row-bound (registerInstanceAt s true (registerTotal before) (h .type)) (registerTotal before) 1024
+    (λ x y a z g. instance-room registerNumber s (registerTotal before) (h .type) x y (sym (ap (making registerNumber) g)))
+    (h .count) [] (d .place) (j .is) c in
+    let q : length (j .value) ≡ k = ap length o ∙ n in
+    (omega arith, omega arith)
+
+pub register-nothing : registerTotal [] ≡ 0
+unfolding registerTotal
+register-nothing = refl
+
+pub register-another : (r : Register) (rs : List Register) → registerTotal (r ∷ rs) ≡ length (r .instances) + registerTotal rs
+unfolding registerTotal
+register-another r rs = refl
+
+pub ruleset register-laws = (address-four, address-eight, instance-told, register-told, head-then, head-stop)

@@ -1,0 +1,51 @@
+use mathlib.Core.Path.{refl}
+use borrow.Author.Needs.{needs}
+use Rattle.fields.proofs.Steps.{steps, twice}
+use Rattle.fields.proofs.RowLaws.{row-counted, row-missed}
+use Rattle.registers.proofs.RegisterLaws.{register-laws, register-told, head-then}
+use Rattle.registers.proofs.register_at.Statement.{statement}
+use Rattle.registers.proofs.register_at.Tie as tie
+
+register-head-at-requires : tie.Need-register-head-at-requires
+register-head-at-requires c κs = search needs
+
+enum-known-top : tie.Need-enum-known-top
+enum-known-top c = search needs
+
+register-instances-at-requires : tie.Need-register-instances-at-requires
+register-instances-at-requires c κs = search needs
+
+enum-known-rest : tie.Need-enum-known-rest
+enum-known-rest c = search needs
+
+enum-known-rest-2 : tie.Need-enum-known-rest-2
+enum-known-rest-2 c = search needs
+
+enum-known-top-2 : tie.Need-enum-known-top-2
+enum-known-top-2 c = search needs
+
+returns : tie.Need-returns
+returns c before t e =
+    register-told _ _ _ _ _ t e
+    (head-then _ _ _ (c .before .before .before .before .before .before .before .register-head-at .ensures) (c .before .before .before .before .before .top .given .1)
+    (twice _ _ _ (row-counted _ _ _ _ (c .before .before .before .register-instances-at .ensures) (c .before .rest .given .1) refl)))
+
+returns-2 : tie.Need-returns-2
+returns-2 c before t e = search (steps, register-laws, row-counted, row-missed) depth 8
+
+returns-3 : tie.Need-returns-3
+returns-3 c before t e = search (steps, register-laws, row-counted, row-missed) depth 8
+
+pub register-at-spec : {M : Type 1} → statement M
+register-at-spec =
+    tie.close
+    (tie.spec
+    register-head-at-requires
+    enum-known-top
+    register-instances-at-requires
+    enum-known-rest
+    enum-known-rest-2
+    enum-known-top-2
+    returns
+    returns-2
+    returns-3)

@@ -1,0 +1,17 @@
+use borrow.Author.Needs.{needs}
+use Rattle.fields.proofs.Steps.{steps}
+use Rattle.fields.proofs.SeenLaws.{seen-laws}
+use Rattle.registers.proofs.register_id_at.Statement.{statement}
+use Rattle.registers.proofs.register_id_at.Tie as tie
+
+pub register-id-at-spec : {M : Type 1} → statement M
+register-id-at-spec =
+    tie.close
+    (tie.spec
+    (λ c κs. search needs)
+    (λ c. search needs)
+    (λ c κs. search needs)
+    (λ c. search (steps, seen-laws) depth 8)
+    (λ c. search needs)
+    (λ c. search (steps, seen-laws) depth 8)
+    (λ c. search (steps, seen-laws) depth 8))

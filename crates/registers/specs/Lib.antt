@@ -1,0 +1,2 @@
+-- What the answers about registers stand for.
+pub mod Registers
