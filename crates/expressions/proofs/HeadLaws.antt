@@ -1,5 +1,5 @@
 -- An expression is its head with its operands, and what the loop over the operands needs.
-use Prim.Native.Nat.{ℕ, zero, suc, _+_, _-_, _≤_, _<_}
+use Prim.Native.Nat.{ℕ, zero, suc, _-_, _≤_, _<_}
 use mathlib.Core.Path.{_≡_, refl, sym, _∙_, ap, fun-ext}
 use lib.Dec.{leb}
 use mathlib.Core.List.{List, [], _∷_}
@@ -11,7 +11,7 @@ use Rattle.format.specs.Fields.{fieldAt}
 use Rattle.format.specs.ExpressionLayout.{Operation, isReading, isConstant, isAnd, isOr, isNot, isLeft, isRight, isUnknown, operationOf, readingAt, operandsAt, shiftedAt, bodyAt, exprAt}
 use Rattle.format.specs.Tree.{Expr, reading, constant, all, any, inverse, left, right, gather}
 use Rattle.expressions.specs.declared.Head.{Head}
-use Rattle.expressions.specs.declared.Head.the-variants.{Reading, Constant, All, Any, Inverse, Left, Right}
+use Rattle.expressions.specs.declared.Head.the-variants.{Reading, Constant, All, Any, Left, Right}
 use Rattle.expressions.specs.declared.HeadRead
 use Rattle.expressions.specs.declared.HeadRead.{HeadRead}
 use Rattle.fields.specs.declared.ByteRead
@@ -22,7 +22,7 @@ use Rattle.expressions.specs.Heads.{arityOf, built, firstOf, readingHead
 use Rattle.fields.specs.Views.{refusedBy, byteParsed, nextParsed, forget}
 use Rattle.expressions.specs.Heads.{headParsed}
 use Rattle.fields.proofs.Steps.{byte-then, byte-stop}
-use Rattle.fields.proofs.Parsing.{Found, found, missed, then-then, making-then, making-making, row-end, row-step, row-stop, row-blind}
+use Rattle.fields.proofs.Parsing.{Found, found, missed, then-then, making-making, row-end, row-step, row-stop, row-blind}
 
 -- The operands of a head, read by `inner`, make an expression.
 abbrev pub operandsOf : (ℕ → Parsed Expr) → ℕ → Head → ℕ → Parsed Expr

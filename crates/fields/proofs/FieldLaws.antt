@@ -1,13 +1,13 @@
 -- From a byte, a number and a keyword to what the layout calls a field.
-use Prim.Native.Nat.{ℕ, zero, suc, _+_, _-_, _%_, _≤_, _<_}
+use Prim.Native.Nat.{ℕ, suc, _+_, _-_, _%_, _≤_, _<_}
 use mathlib.Core.Path.{_≡_, refl, sym, _∙_, ap}
-use mathlib.Core.Bool.{Bool, true, false, not, cond, _&&_, _||_}
+use mathlib.Core.Bool.{Bool, true, false, cond, _&&_}
 use mathlib.Core.List.{List, [], _∷_}
 use native.Mathlib.Omega.{arith}
 use native.Mathlib.Nat.{add-sub-cancel-left}
 use borrow.Author.Tests.{eq-eqb, ne-eqb, le-leb, lt-leb}
 use lib.ListN.{length, take, drop, getD, drop-of-length-le}
-use lib.Dec.{eqb, leb}
+use lib.Dec.{eqb}
 use lib.Seq.{drop-cons}
 use native.Mathlib.Numerals.{add-one}
 use Rattle.numbers.specs.declared.NumberRead
@@ -17,7 +17,7 @@ use Rattle.numbers.specs.declared.ByteRead.{ByteRead}
 use Rattle.numbers.specs.Field.{present, field, numberAt, byteAt}
 use Rattle.numbers.proofs.Bools.{or-right, and-both}
 use Rattle.numbers.proofs.FieldLaws.{present-yes, present-no}
-use Rattle.format.specs.Parsed.{Parsed, done, refused, require}
+use Rattle.format.specs.Parsed.{done, refused, require}
 use Rattle.format.specs.Fields.{fieldAt, same, keywordAt, knownType, knownFlags, knownAttention}
 
 module _ (s : List ℕ) (at : ℕ) where

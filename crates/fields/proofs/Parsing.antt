@@ -1,13 +1,13 @@
 -- The laws of readings that follow one another, and of elements in a row.
 use Prim.Native.Nat.{ℕ, zero, suc, _+_, _-_, _≤_, _<_}
-use mathlib.Core.Path.{_≡_, refl, sym, _∙_, ap}
-use mathlib.Core.Bool.{Bool, true, false}
+use mathlib.Core.Path.{_≡_, refl, sym, ap}
+use mathlib.Core.Bool.{Bool, true}
 use mathlib.Core.List.{List, [], _∷_}
 use native.Mathlib.Omega.{arith}
 use native.Mathlib.Numerals.{sub-one}
 use lib.ListN.{length}
-use Rattle.format.specs.Parsed.{Parsed, done, refused, andThen, making, require, requiring, rowAt}
-use Rattle.fields.specs.Views.{forget}
+use Rattle.format.specs.Parsed.{Parsed, done, refused, andThen, making, requiring, rowAt}
+use Rattle.format.proofs.ParsedLaws.{then-out, making-out, requiring-out}
 
 pub then-then : {A B C : Type 0} (p : Parsed A) (f : A → ℕ → Parsed B) (g : B → ℕ → Parsed C)
     → andThen (andThen p f) g ≡ andThen p (λ a n. andThen (f a n) g)
@@ -44,9 +44,7 @@ pub record Found {A B : Type 0} (g : A → B) (p : Parsed A) (b : B) (n : ℕ) :
   pub made : g value ≡ b
 
 pub found : {A B : Type 0} (g : A → B) (p : Parsed A) {b : B} {n : ℕ} → done b n ≡ making g p → Found g p b n
-unfolding making
-found g (done a m) {b} {n} e = let h : n ≡ m = cc in record { value = a; is = rw h; made = cc }
-found g (refused k m) e = let z : _≡_ {A = ℕ} 0 1 = cc in absurd (omega arith)
+found g p e = let r = making-out g p (sym e) in record { value = r .0; is = r .1; made = r .2 }
 
 pub missed : {A B : Type 0} (g : A → B) (p : Parsed A) {k m : ℕ} → refused k m ≡ making g p → p ≡ refused k m
 unfolding making
@@ -61,23 +59,11 @@ pub record Followed {A B : Type 0} (p : Parsed A) (f : A → ℕ → Parsed B) (
   pub next : f value place ≡ done b m
 
 pub followed : {A B : Type 0} (p : Parsed A) (f : A → ℕ → Parsed B) {b : B} {m : ℕ} → andThen p f ≡ done b m → Followed p f b m
-unfolding andThen
-followed (done a n) f e = record { value = a; place = n; is = refl; next = e }
-followed (refused k j) f e = let z : _≡_ {A = ℕ} 0 1 = cc in absurd (omega arith)
-
-required : {A : Type 0} (b : Bool) (n p : ℕ) (q : Parsed A) {a : A} {m : ℕ} → require b n p (λ _. q) ≡ done a m → (b ≡ true) × (q ≡ done a m)
-unfolding require
-required true n p q e = (refl, e)
-required false n p q e = let z : _≡_ {A = ℕ} 0 1 = cc in absurd (omega arith)
+followed p f e = let r = then-out p f e in record { value = r .0; place = r .1; is = r .2; next = r .3 }
 
 -- A value that had to pass a test passed it.
 pub passed : {A : Type 0} (test : A → Bool) (n p : ℕ) (q : Parsed A) {a : A} {m : ℕ} → requiring test n p q ≡ done a m → (test a ≡ true) × (q ≡ done a m)
-unfolding requiring andThen
-passed test n p (done b i) {a} {m} e =
-    let r = required (test b) n p (done b i) e in
-    let h : b ≡ a = cc (r .1) in
-    (rw h at (r .0), r .1)
-passed test n p (refused k j) e = let z : _≡_ {A = ℕ} 0 1 = cc in absurd (omega arith)
+passed test n p q e = let r = requiring-out test n p q e in (r .1, r .0)
 
 -- Elements in a row.
 module _ {A : Type 0} (p : List A → ℕ → Parsed A) where

@@ -1,14 +1,14 @@
 -- A loop over a row of elements that a number tells apart.
-use Prim.Native.Nat.{ℕ, zero, suc, _+_, _-_, _≤_, _<_}
+use Prim.Native.Nat.{ℕ, _+_, _-_, _≤_, _<_}
 use mathlib.Core.Path.{_≡_, refl, sym, _∙_, ap, fun-ext}
-use mathlib.Core.Bool.{Bool, true, false}
+use mathlib.Core.Bool.{true}
 use mathlib.Core.List.{List, [], _∷_, map}
 use native.Mathlib.Omega.{arith}
 use native.Mathlib.Nat.{zero-add}
 use Rattle.format.specs.Fields.{fresh}
 use lib.ListN.{length, take, set, replicate, length-set, length-replicate}
 use Rattle.format.specs.declared.Refusal.{Refusal}
-use Rattle.format.specs.Parsed.{Parsed, done, refused, andThen, making, rowAt}
+use Rattle.format.specs.Parsed.{Parsed, done, refused, making, rowAt}
 use Rattle.fields.specs.Seen.{unmarked, Tells}
 use Rattle.fields.specs.declared.NextRead
 use Rattle.fields.specs.declared.NextRead.{NextRead}

@@ -24,12 +24,12 @@ pub record LayoutMeets (c : Chip) : Type 0 where
   pub expressions : ExpressionsSound c
   pub bits : Every (λ k. k .bit < 64) (allChildren c)
 
-register-count : (rs : List Register) → length (gathered entriesOf rs) ≡ registerTotal rs
+pub register-count : (rs : List Register) → length (gathered entriesOf rs) ≡ registerTotal rs
 unfolding gathered entriesOf registerTotal
 register-count [] = refl
 register-count (r ∷ rs) = rw (length-append, length-map, register-count rs)
 
-node-count : (ns : List Node) → length (gathered nodeEntriesOf ns) ≡ nodeTotal ns
+pub node-count : (ns : List Node) → length (gathered nodeEntriesOf ns) ≡ nodeTotal ns
 unfolding gathered nodeEntriesOf nodeTotal
 node-count [] = refl
 node-count (n ∷ ns) = rw (length-append, length-map, node-count ns)

@@ -1,18 +1,18 @@
 -- The laws of the nodes section.
-use Prim.Native.Nat.{ℕ, zero, suc, _+_, _-_, _≤_, _<_}
+use Prim.Native.Nat.{ℕ, _+_, _-_, _≤_, _<_}
 use mathlib.Core.Path.{_≡_, refl, sym, _∙_, ap}
-use mathlib.Core.Bool.{Bool, true, false}
+use mathlib.Core.Bool.{true}
 use mathlib.Core.List.{List, [], _∷_, map}
 use native.Mathlib.Omega.{arith}
 use borrow.Author.Tests.{ltb-true}
 use lib.ListN.{length}
-use lib.Dec.{ltb, eqb}
+use lib.Dec.{ltb}
 use Rattle.format.specs.declared.Refusal.{Refusal}
 use Rattle.format.specs.Limits.{nodeLimit, levels}
 use Rattle.format.specs.Parsed.{Parsed, done, refused, andThen, making, requiring, rowAt}
 use Rattle.format.specs.Fields.{fieldAt, countAt, typeAt, attentionAt, fresh}
 use Rattle.format.specs.ExpressionLayout.{exprAt}
-use Rattle.format.specs.Tree.{Capture, Rule, Child, NodeInstance, Node}
+use Rattle.format.specs.Tree.{Rule, Child, NodeInstance, Node}
 use Rattle.format.specs.NodeLayout.{NodeHead, InstanceHead, captureAt, ruleAt, childAt, instanceHeadAt, nodeInstanceAt, nodeTotal, nodeHeadAt, nodeAt}
 use Rattle.nodes.specs.declared.NodeHead as declared
 use Rattle.nodes.specs.declared.NodeHeadRead
@@ -24,7 +24,7 @@ use Rattle.fields.specs.Seen.{unmarked, instanceNumberAt, Tells}
 use Rattle.nodes.specs.Nodes.{childBitAt, countsAt, nodeBodyAt}
 use Rattle.fields.specs.Views.{Element, refusedBy}
 use Rattle.nodes.specs.Nodes.{nodeHeadParsed, instanceHeadParsed, ruleAttention, childBit, nodeNumber, nodeId, nodeElement}
-use Rattle.fields.proofs.Parsing.{Found, found, followed, passed, making-after, making-making, row-length, row-bound}
+use Rattle.fields.proofs.Parsing.{Found, found, followed, passed, row-length, row-bound}
 use Rattle.fields.proofs.Steps.{goes-making, stops-making}
 use Rattle.fields.proofs.SeenLaws.{number-told, tells-is}
 

@@ -1,14 +1,12 @@
 -- The layout of a file and the file's tree.
-use Prim.Native.Nat.{ℕ, zero, suc, _+_}
+use Prim.Native.Nat.{ℕ}
 use mathlib.Core.Path.{_≡_, refl, sym, _∙_, ap}
 use mathlib.Core.Bool.{true}
-use mathlib.Core.List.{List, [], _∷_, _++_, map}
-use native.Mathlib.Omega.{arith}
-use lib.ListN.{length, length-append, length-map}
+use mathlib.Core.List.{List}
+use lib.ListN.{length}
 use Rattle.format.specs.declared.Refusal.{Refusal}
-use Rattle.format.specs.Parsed.{Parsed, done, refused, andThen, making}
-use Rattle.format.specs.Lookup.{gathered, entriesOf, registerEntries, nodeEntriesOf, nodeEntries}
-use Rattle.format.specs.Refusals.{CheckValues, acceptedWith}
+use Rattle.format.specs.Parsed.{Parsed, done, andThen, making}
+use Rattle.format.specs.Lookup.{registerEntries, nodeEntries}
 use Rattle.format.specs.RegisterLayout.{registerTotal, registersAt}
 use Rattle.format.specs.NodeLayout.{nodeTotal, nodesAt}
 use Rattle.format.specs.FileLayout.{startAt, rootsAt, fileAt}
@@ -19,6 +17,7 @@ use Rattle.fields.specs.declared.ByteRead
 use Rattle.fields.specs.declared.ByteRead.{ByteRead}
 use Rattle.reader.specs.Layout.{Summary, summary, layoutAt, layoutValues, chipValues}
 use Rattle.fields.specs.Views.{Section, refusedBy, byteParsed, sectionParsed}
+use Rattle.format.proofs.Grouping.{register-count, node-count}
 use Rattle.registers.specs.Registers.{registerSection}
 use Rattle.nodes.specs.Nodes.{nodeSection}
 use Rattle.fields.proofs.Parsing.{Found, found, missed, followed, making-after, making-making}
@@ -60,21 +59,10 @@ summary-is m rs ns ts a b c end {e} {i} {f} {j} {t} p q r =
     let qi : nodeTotal ns ≡ j = ap (λ x. x .instances) q in
     rw (pe, pi, qe, qi, r)
 
--- The instances in file order are as many as the registers and the nodes have.
-register-entries : (rs : List Register) → length (gathered entriesOf rs) ≡ registerTotal rs
-unfolding gathered entriesOf registerTotal
-register-entries [] = refl
-register-entries (r ∷ rs) = simp (length-append, length-map, register-entries rs)
-
-node-entries : (ns : List Node) → length (gathered nodeEntriesOf ns) ≡ nodeTotal ns
-unfolding gathered nodeEntriesOf nodeTotal
-node-entries [] = refl
-node-entries (n ∷ ns) = simp (length-append, length-map, node-entries ns)
-
 -- The layout is the file's tree, summarised: the same refusals, the same end, and the checker's values.
 pub layout-file : (s : List ℕ) (at : ℕ) → making layoutValues (layoutAt s at) ≡ making chipValues (fileAt s true at)
 unfolding layoutAt fileAt registerEntries nodeEntries
-layout-file s at = simp (making-after, making-making, register-entries, node-entries)
+layout-file s at = simp (making-after, making-making, register-count, node-count)
 
 -- A layout that was read: the file's tree, and its sections at the places that the layout names.
 pub record Sections (s : List ℕ) (at : ℕ) (l : Summary) (end : ℕ) : Type 0 where

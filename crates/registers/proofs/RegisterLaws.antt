@@ -1,25 +1,24 @@
 -- The laws of the registers section.
-use Prim.Native.Nat.{ℕ, zero, suc, _+_, _-_, _≤_, _<_}
+use Prim.Native.Nat.{ℕ, _+_, _-_, _≤_, _<_}
 use mathlib.Core.Path.{_≡_, refl, sym, _∙_, ap}
-use mathlib.Core.Bool.{Bool, true, false}
+use mathlib.Core.Bool.{true}
 use mathlib.Core.List.{List, [], _∷_, map}
 use native.Mathlib.Omega.{arith}
 use borrow.Author.Tests.{ltb-true, eq-eqb, ne-eqb}
 use lib.ListN.{length}
-use lib.Dec.{ltb, eqb}
+use lib.Dec.{ltb}
 use Rattle.format.specs.Limits.{registerLimit}
 use Rattle.format.specs.declared.Refusal.{Refusal}
-use Rattle.format.specs.Parsed.{Parsed, done, refused, andThen, making, requiring, rowAt}
+use Rattle.format.specs.Parsed.{Parsed, done, andThen, making, requiring, rowAt}
 use Rattle.format.specs.Fields.{fieldAt, countAt, typeAt, flagsAt, addressSize, fresh}
 use Rattle.registers.specs.declared.RegisterHead as declared
 use Rattle.registers.specs.declared.RegisterHeadRead
 use Rattle.registers.specs.declared.RegisterHeadRead.{RegisterHeadRead}
 use Rattle.fields.specs.declared.NumberRead
-use Rattle.fields.specs.declared.NumberRead.{NumberRead}
 use Rattle.format.specs.Tree.{RegisterInstance, Register}
-use Rattle.format.specs.RegisterLayout.{RegisterHead, registerTotal, registerInstanceAt, registerHeadAt, registerAt, registersAt}
+use Rattle.format.specs.RegisterLayout.{RegisterHead, registerTotal, registerInstanceAt, registerHeadAt, registerAt}
 use Rattle.fields.specs.Seen.{unmarked, instanceNumberAt, Tells}
-use Rattle.fields.specs.Views.{Element, refusedBy, numberParsed}
+use Rattle.fields.specs.Views.{Element, refusedBy}
 use Rattle.registers.specs.Registers.{registerHeadParsed, registerNumber, registerId, registerElement}
 use Rattle.fields.proofs.Parsing.{Found, found, followed, passed, row-length, row-bound}
 use Rattle.fields.proofs.Steps.{goes-making, stops-making}
