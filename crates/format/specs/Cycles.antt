@@ -16,7 +16,7 @@ leads a b = some (λ k. nodeNamed (k .id) (k .number) b) (a .instance .children)
 unfoldable pub childEdge : Chip → ℕ → ℕ → Bool
 childEdge c i j = some (λ a. some (leads a) (at j (nodeEntries c))) (at i (nodeEntries c))
 
--- A node instance lies on a cycle: "some chain of child entries leads from it back to it". `onCycle` computes this (`CyclesLaws.cycle-law`).
+-- A node instance lies on a cycle: a path of child entries leads from it back to it. `onCycle` computes this (`FaultsLaws.cycle-words`).
 unfoldable pub OnCycle : Chip → ℕ → Type 0
 OnCycle c i = Path (childEdge c) i i
 

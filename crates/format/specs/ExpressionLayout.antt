@@ -26,7 +26,7 @@ operationOf b =
 unfoldable pub readingAt : List ℕ → ℕ → ℕ → Parsed Expr
 readingAt s start at = andThen (fieldAt s at 3) λ id a. making (reading start id) (fieldAt s a 1)
 
--- "The count is 2 or more": otherwise 9; then as many expressions.
+-- "A count is 2 or more": otherwise 9; then as many expressions.
 unfoldable pub operandsAt : (ℕ → Parsed Expr) → List ℕ → ℕ → Parsed (List Expr)
 operandsAt inner s at = andThen (requiring (leb 2) 9 at (fieldAt s at 1)) λ n a. rowAt (λ before. inner) n [] a
 
