@@ -1,0 +1,2 @@
+-- The laws of tables of numbers.
+pub mod TablesLaws

@@ -1,0 +1,2 @@
+-- Tables of numbers.
+pub mod Tables

@@ -1,0 +1,36 @@
+// Tables of numbers: what a name is kept as, where it stands, and writing.
+ghost use mathlib.Core.Path.{_≡_};
+ghost use lib.Dec.{eqb};
+ghost use lib.ListN.{set};
+ghost use Rattle.format.specs.Lookup.{position};
+ghost use Rattle.tables.specs.Tables.{keyOf};
+
+// What the name of a register instance or a node instance is kept as: its ID and its number in one.
+pub fn key(id: u64, number: u8) -> u64
+    ensures { λ r. ⌜ r ≡ keyOf id number ⌝ }
+{
+    id % 0x1000000 * 256 + number as u64
+}
+
+// The position of the first such number in a table, or the table's length. It looks at each number once, up to that one.
+pub fn position_of(table: &[u64], x: u64) -> usize
+    ensures { λ r. ⌜ r ≡ position (λ y. eqb y x) (now (table .entry)) ⌝ }
+{
+    let mut i = 0;
+    while i < table.len() {
+        if table[i] == x {
+            return i;
+        }
+        i += 1;
+    }
+    i
+}
+
+// A number at a place of a table; a table without the place keeps what it has.
+pub fn put(table: &mut [u64], k: usize, x: u64)
+    ensures { λ r. ⌜ now (table .exit) ≡ set (now (table .entry)) k x ⌝ }
+{
+    if k < table.len() {
+        table[k] = x;
+    }
+}
