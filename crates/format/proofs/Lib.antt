@@ -2,6 +2,7 @@
 pub mod ParsedLaws
 pub mod Spelling
 pub mod EveryLaws
+pub mod GatheredLaws
 pub mod RowLaws
 pub mod ExpressionAccepted
 pub mod RegistersAccepted

@@ -14,6 +14,7 @@ use Rattle.numbers.specs.Bits.{bitOf}
 use Rattle.numbers.specs.BigEndian.{bytesOf}
 use Rattle.graph.specs.Chains.{Graph, Link, bare, below, kept}
 use Rattle.format.specs.Lookup.{gathered}
+use Rattle.format.proofs.GatheredLaws.{gathered-append, gathered-one}
 use Rattle.walk.specs.TableGraph.{sizeOf, childAt, tableGraph}
 use Rattle.walk.specs.Fold.{orElse}
 use Rattle.walk.proofs.Tables.{child-in}
@@ -50,15 +51,6 @@ kept-append p (x ∷ xs) ys = go (p x) (kept-append p xs ys)
     go : (t : Bool) {k : List ℕ} → k ≡ kept p xs ++ kept p ys → cond t (x ∷ k) k ≡ cond t (x ∷ kept p xs) (kept p xs) ++ kept p ys
     go true e = rw e
     go false e = e
-
-pub gathered-append : {A B : Type 0} (f : A → List B) (xs ys : List A) → gathered f (xs ++ ys) ≡ gathered f xs ++ gathered f ys
-unfolding gathered
-gathered-append f [] ys = refl
-gathered-append f (x ∷ xs) ys = rw (gathered-append f xs ys) (sym (append-assoc (f x) (gathered f xs) (gathered f ys)))
-
-pub gathered-one : {A B : Type 0} (f : A → List B) (x : A) → gathered f (x ∷ []) ≡ f x
-unfolding gathered
-gathered-one f x = append-nil (f x)
 
 module _ (g : Graph) where
   pub bits-none : (i : ℕ) → 0 ≡ length (bitsTo g i 0)

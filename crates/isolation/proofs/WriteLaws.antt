@@ -17,7 +17,8 @@ use Rattle.isolation.specs.declared.Listing
 use Rattle.isolation.specs.declared.Listing.{Listing}
 use Rattle.isolation.specs.Records.{recordOf, recordSize}
 use Rattle.isolation.specs.Rows.{shown, bitsTo, isDone, rowLinks, rowsTo, bitRecords, rowRecords, rowsRecords, Wrote, roomFor, holds, listingOf}
-use Rattle.isolation.proofs.RowsLaws.{gathered-append, gathered-one, bits-more, row-done, rows-none, rows-more}
+use Rattle.format.proofs.GatheredLaws.{gathered-append, gathered-one}
+use Rattle.isolation.proofs.RowsLaws.{bits-more, row-done, rows-none, rows-more}
 
 pub record-length : (attention bit id number : ℕ) → length (recordOf attention bit id number) ≡ 8
 unfolding recordOf

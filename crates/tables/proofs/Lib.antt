@@ -1,2 +1,3 @@
--- The laws of tables of numbers.
+-- The laws of tables of numbers, and of faults in a row.
 pub mod TablesLaws
+pub mod FaultsLaws

@@ -1,2 +1,3 @@
--- Tables of numbers.
+-- Tables of numbers, and what is wrong with a name by them.
 pub mod Tables
+pub mod Faults
