@@ -1,0 +1,7 @@
+-- The laws of cycles of a table of children.
+pub mod TestsLaws
+pub mod FirstLaws
+pub mod CycleLaws
+pub mod TableLaws
+pub mod BackLaws
+pub mod Samples

@@ -1,0 +1,48 @@
+-- Further laws of tests of the numbers below n.
+use mathlib.Core.Path.{_≡_, refl, sym, ap, _∙_}
+use mathlib.Core.Bool.{Bool, true, false, _&&_}
+use mathlib.Core.Logic.{⊎-elim}
+use Prim.Native.Nat.{ℕ, zero, suc, _+_, _<_}
+use native.Mathlib.Omega.{arith}
+use native.Mathlib.Numerals.{add-one}
+use lib.Dec.{eqb}
+use borrow.Author.Tests.{eq-eqb, ne-eqb}
+use Rattle.numbers.proofs.Bools.{either, clash}
+use Rattle.graph.specs.Below.{any}
+
+-- Two tests are the same where each passes what the other does.
+pub same-test : {s t : Bool} → (s ≡ true → t ≡ true) → (t ≡ true → s ≡ true) → s ≡ t
+same-test {s} {t} f g = ⊎-elim (λ e. e ∙ sym (f e)) (λ e. ⊎-elim (λ d. clash (g d) e) (λ d. e ∙ sym d) (either t)) (either s)
+
+pub and-fails : (s : Bool) {t : Bool} → t ≡ false → s && t ≡ false
+and-fails true e = e
+and-fails false e = refl
+
+-- A number that is not k, and one that is.
+
+pub test-other : (x k : ℕ) (t : Bool) → (x ≡ k → ⊥) → false ≡ (eqb x k && t)
+test-other x k t h = rw (ne-eqb x k h)
+
+pub test-same : (x k : ℕ) {r : Bool} (t : Bool) → x ≡ k → r ≡ t → r ≡ (eqb x k && t)
+test-same x k t h e = rw (eq-eqb x k h) e
+
+pub any-none : (p : ℕ → Bool) → any 0 p ≡ false
+unfolding any
+any-none p = refl
+
+pub any-more : (n : ℕ) (p : ℕ → Bool) → any n p ≡ false → p n ≡ false → any (n + 1) p ≡ false
+unfolding any
+any-more n p e d = rw (add-one n, e) d
+
+pub any-end : {k n : ℕ} (p : ℕ → Bool) → any k p ≡ false → k ≡ n → false ≡ any n p
+any-end p e d = sym e ∙ ap (λ x. any x p) d
+
+pub any-same : (n : ℕ) (p q : ℕ → Bool) → ((i : ℕ) → i < n → p i ≡ q i) → any n p ≡ any n q
+unfolding any
+any-same zero p q f = refl
+any-same (suc n) p q f = rw (any-same n p q (λ i h. f i (omega arith)), f n (omega arith))
+
+pub any-fails : (n : ℕ) (p : ℕ → Bool) → ((i : ℕ) → i < n → p i ≡ false) → any n p ≡ false
+unfolding any
+any-fails zero p f = refl
+any-fails (suc n) p f = rw (any-fails n p (λ i h. f i (omega arith))) (f n (omega arith))

@@ -1,0 +1,15 @@
+use native.Mathlib.Omega.{arith}
+use Rattle.cycles.specs.Cycle.{lookedAt}
+use Rattle.cycles.proofs.looked_at.Statement.{statement}
+use Rattle.cycles.proofs.looked_at.Tie as tie
+
+returns : tie.Need-returns
+unfolding lookedAt
+returns c = omega arith
+
+returns-2 : tie.Need-returns-2
+unfolding lookedAt
+returns-2 c = omega arith
+
+pub looked-at-spec : {M : Type 1} → statement M
+looked-at-spec = tie.close (tie.spec returns returns-2)

@@ -1,0 +1,41 @@
+use mathlib.Core.Path.{_≡_, ap}
+use native.Mathlib.Omega.{arith}
+use lib.ListN.{length}
+use borrow.Author.Needs.{needs}
+use Rattle.cycles.proofs.TableLaws.{part-length, cycle-found}
+use Rattle.cycles.proofs.on_cycle.Statement.{statement}
+use Rattle.cycles.proofs.on_cycle.Tie as tie
+
+array-share-prefix-active : tie.Need-array-share-prefix-active
+array-share-prefix-active c = search needs
+
+slice-aggregate-run : tie.Need-slice-aggregate-run
+slice-aggregate-run c = part-length _ 256 18446744073709551615 (c .before .before .pre .0)
+
+run-requires : tie.Need-run-requires
+run-requires c κs = search needs
+
+slice-aggregate-closes : tie.Need-slice-aggregate-closes
+slice-aggregate-closes c = search needs
+
+closes-requires : tie.Need-closes-requires
+closes-requires c κs =
+    let l : length (c .before .before .run .result .marks) ≡ 256 = search needs in
+    let s = c .before .before .before .before .before in
+    (s .pre .0, omega arith, s .pre .1)
+
+returns : tie.Need-returns
+returns c =
+    let s = c .before .before .before .before .before .before in
+    cycle-found _ _ _ (s .pre .0) (s .pre .1) (ap (λ w. w .marks) (c .before .before .before .run .ensures)) (c .closes .ensures)
+
+pub on-cycle-spec : {M : Type 1} → statement M
+on-cycle-spec =
+    tie.close
+    (tie.spec
+    array-share-prefix-active
+    slice-aggregate-run
+    run-requires
+    slice-aggregate-closes
+    closes-requires
+    returns)

@@ -1,0 +1,3 @@
+-- Cycles of a table of children.
+pub mod Cycle
+pub mod Back
