@@ -269,7 +269,7 @@ fn node_body_at(s: &[u8], at: usize, h: InstanceHead) -> NextRead
 }
 
 // A node instance: its number. `seen` marks the numbers before it in the node, and `begun` instances stand before it in the file.
-fn node_instance_at(s: &[u8], at: usize, begun: usize, seen: &[u8]) -> ByteRead
+pub fn node_instance_at(s: &[u8], at: usize, begun: usize, seen: &[u8]) -> ByteRead
     ensures { λ r. ⌜ ((total : ℕ) (before : List NodeInstance) → Tells (unmarked (now (seen .entry))) (map nodeNumber before) → begun ≡ total + length before → byteParsed r ≡ making nodeNumber (nodeInstanceAt (now (s .entry)) true total before at)) ⌝ }
 {
     let top = instance_head_at(s, at, begun, seen);
@@ -331,7 +331,7 @@ fn node_id_at(s: &[u8], at: usize, ids: &[u64]) -> NumberRead
 }
 
 // What a node starts with; `ids` are the IDs of the nodes before it.
-fn node_head_at(s: &[u8], at: usize, ids: &[u64]) -> NodeHeadRead
+pub fn node_head_at(s: &[u8], at: usize, ids: &[u64]) -> NodeHeadRead
     ensures { λ r. ⌜ nodeHeadParsed r ≡ nodeHeadAt (now (s .entry)) true (now (ids .entry)) at ⌝ }
 {
     let i = node_id_at(s, at, ids);

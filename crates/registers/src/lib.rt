@@ -46,7 +46,7 @@ pub enum RegisterHeadRead {
 }
 
 // The address of a register instance: four bytes at type 1, eight at type 2.
-fn address_at(s: &[u8], at: usize, kind: u8) -> NumberRead
+pub fn address_at(s: &[u8], at: usize, kind: u8) -> NumberRead
     ensures { λ r. ⌜ numberParsed r ≡ fieldAt (now (s .entry)) at (addressSize kind) ⌝ }
 {
     if kind == 1 {
@@ -142,7 +142,7 @@ fn register_flags_at(s: &[u8], at: usize, id: u64, kind: u8) -> RegisterHeadRead
 }
 
 // What a register starts with; `ids` are the IDs of the registers before it.
-fn register_head_at(s: &[u8], at: usize, ids: &[u64]) -> RegisterHeadRead
+pub fn register_head_at(s: &[u8], at: usize, ids: &[u64]) -> RegisterHeadRead
     ensures { λ r. ⌜ registerHeadParsed r ≡ registerHeadAt (now (s .entry)) true (now (ids .entry)) at ⌝ }
 {
     let i = register_id_at(s, at, ids);

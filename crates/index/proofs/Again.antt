@@ -1,0 +1,153 @@
+-- An element that was read is read again, field by field, without what stood before it.
+use Prim.Native.Nat.{ℕ}
+use mathlib.Core.Bool.{true}
+use mathlib.Core.List.{List, [], map}
+use mathlib.Core.Path.{_≡_, refl, sym, _∙_, ap}
+use lib.ListN.{length}
+use Rattle.format.specs.Limits.{nodeLimit}
+use lib.Dec.{ltb}
+use Rattle.format.specs.Fields.{fieldAt, keywordAt, countAt, addressSize, fresh, member}
+use Rattle.format.specs.Parsed.{Parsed, done, refused, andThen, making, requiring, rowAt}
+use Rattle.format.specs.RegisterLayout.{RegisterHead, registerInstanceAt, registerHeadAt}
+use Rattle.format.specs.NodeLayout.{NodeHead, instanceHeadAt, nodeInstanceAt, nodeHeadAt}
+use Rattle.format.specs.Tree.{RegisterInstance, NodeInstance}
+use Rattle.format.proofs.ParsedLaws.{never, then-out, then-in, making-out, requiring-out, requiring-in}
+use Rattle.registers.specs.declared.RegisterHead as declared
+use Rattle.nodes.specs.declared.NodeHead as node
+use Rattle.nodes.specs.Nodes.{nodeNumber}
+use Rattle.index.specs.declared.Head.{Head}
+use Rattle.index.specs.declared.Instance.{Instance}
+use Rattle.index.specs.Rows.{kindOf, wantedKind, headOf, nodeHeadOf, instanceOf}
+
+pub done-out : {A : Type 0} {a b : A} {n m : ℕ} → done a n ≡ done b m → (a ≡ b) × (n ≡ m)
+done-out {A} {a} {b} {n} {m} e = (let p : a ≡ b = cc in p, let q : n ≡ m = cc in q)
+
+-- What was read once is read again, and is not refused.
+pub same-done : {A : Type 0} {p : Parsed A} {a b : A} {n m : ℕ} → done a n ≡ p → p ≡ done b m → (a ≡ b) × (n ≡ m)
+same-done e d = done-out (e ∙ d)
+
+pub not-refused : {A B : Type 0} {p : Parsed A} {n k : ℕ} {b : A} {m : ℕ} → refused n k ≡ p → p ≡ done b m → B
+not-refused e d = never (e ∙ d)
+
+some-limit : ltb 0 nodeLimit ≡ true
+unfolding nodeLimit
+some-limit = refl
+
+module _ (s : List ℕ) (at : ℕ) where
+  -- The fields of a register instance.
+  pub register-instance-fields : (total type : ℕ) (before : List RegisterInstance) {i : RegisterInstance} {m : ℕ}
+      → registerInstanceAt s true total type before at ≡ done i m
+      → (fieldAt s at 1 ≡ done (i .number) (i .place)) × (fieldAt s (i .place) (addressSize type) ≡ done (i .address) m)
+  unfolding registerInstanceAt
+  register-instance-fields total type before {i} {m} e =
+      let t = then-out _ _ e in
+      let q = requiring-out _ _ _ _ (t .2) in
+      let p = requiring-out _ _ _ _ (q .0) in
+      let g = making-out _ _ (t .3) in
+      let n : t .0 ≡ i .number = ap (λ x. x .number) (g .2) in
+      let l : t .1 ≡ i .place = ap (λ x. x .place) (g .2) in
+      let x : g .0 ≡ i .address = ap (λ x. x .address) (g .2) in
+      (p .0 ∙ rw (n, l), rw (← l) (g .1 ∙ rw x))
+
+  pub register-instance-again : (total type : ℕ) (before : List RegisterInstance) {i : RegisterInstance} {m n p v next : ℕ}
+      → done n p ≡ fieldAt s at 1 → done v next ≡ fieldAt s p (addressSize type)
+      → registerInstanceAt s true total type before at ≡ done i m
+      → _≡_ {A = Instance} (record { number = n; place = p; next = next }) (instanceOf (i .number) (i .place) m)
+  register-instance-again total type before {i} {m} {n} {p} {v} {next} a b e =
+      let f = register-instance-fields total type before e in
+      let h = same-done a (f .0) in
+      let k : done v next ≡ fieldAt s (i .place) (addressSize type) = b ∙ rw (h .1) in
+      let l = same-done k (f .1) in
+      rw (h .0, h .1, l .1)
+
+  pub register-instance-whole : {B : Type 0} (total type : ℕ) (before : List RegisterInstance) {i : RegisterInstance} {m n p w z : ℕ}
+      → done n p ≡ fieldAt s at 1 → refused w z ≡ fieldAt s p (addressSize type)
+      → registerInstanceAt s true total type before at ≡ done i m → B
+  register-instance-whole total type before {i} {m} {n} {p} {w} {z} a b e =
+      let f = register-instance-fields total type before e in
+      let h = same-done a (f .0) in
+      let k : refused w z ≡ fieldAt s (i .place) (addressSize type) = b ∙ rw (h .1) in
+      not-refused k (f .1)
+
+  pub register-instance-there : {B : Type 0} (total type : ℕ) (before : List RegisterInstance) {i : RegisterInstance} {m w z : ℕ}
+      → refused w z ≡ fieldAt s at 1 → registerInstanceAt s true total type before at ≡ done i m → B
+  register-instance-there total type before a e = not-refused a (register-instance-fields total type before e .0)
+
+  -- A register's head without the IDs before it.
+  pub register-head-again : (ids : List ℕ) {h : RegisterHead} {m : ℕ} → registerHeadAt s true ids at ≡ done h m → registerHeadAt s true [] at ≡ done h m
+  unfolding registerHeadAt fresh member
+  register-head-again ids e =
+      let t = then-out _ _ e in
+      let q = requiring-out _ _ _ _ (t .2) in
+      then-in _ _ (requiring-in _ _ _ _ (q .0) refl) (t .3)
+
+  pub head-is : (ids : List ℕ) {h : RegisterHead} {m next : ℕ} {k : declared.RegisterHead}
+      → _≡_ {A = Parsed RegisterHead} (done (record { id = k .id; type = k .kind; flags = k .flags; count = k .count }) next) (registerHeadAt s true [] at)
+      → registerHeadAt s true ids at ≡ done h m
+      → _≡_ {A = Head} (record { id = k .id; kind = k .kind; code = kindOf (k .kind) (k .flags); count = k .count; next = next }) (headOf h m)
+  head-is ids a e = let f = same-done a (register-head-again ids e) in rw (← f .0, f .1)
+
+  -- A node's head without the IDs before it.
+  pub node-head-again : (ids : List ℕ) {h : NodeHead} {m : ℕ} → nodeHeadAt s true ids at ≡ done h m → nodeHeadAt s true [] at ≡ done h m
+  unfolding nodeHeadAt fresh member
+  node-head-again ids e =
+      let t = then-out _ _ e in
+      let q = requiring-out _ _ _ _ (t .2) in
+      then-in _ _ (requiring-in _ _ _ _ (q .0) refl) (t .3)
+
+  pub node-head-is : (ids : List ℕ) {h : NodeHead} {m next : ℕ} {k : node.NodeHead}
+      → _≡_ {A = Parsed NodeHead} (done (record { id = k .id; type = k .kind; count = k .count }) next) (nodeHeadAt s true [] at)
+      → nodeHeadAt s true ids at ≡ done h m
+      → _≡_ {A = Head} (record { id = k .id; kind = k .kind; code = wantedKind (k .kind); count = k .count; next = next }) (nodeHeadOf h m)
+  node-head-is ids a e = let f = same-done a (node-head-again ids e) in rw (← f .0, f .1)
+
+  -- A node instance without those before it.
+  pub node-instance-again : (total : ℕ) (before : List NodeInstance) {i : NodeInstance} {m : ℕ} → nodeInstanceAt s true total before at ≡ done i m
+      → (nodeInstanceAt s true 0 [] at ≡ done i m) × (at ≡ i .place)
+  unfolding nodeInstanceAt instanceHeadAt fresh member
+  node-instance-again total before {i} {m} e =
+      let t = then-out _ _ e in
+      let h = then-out _ _ (t .2) in
+      let q = requiring-out _ _ _ _ (h .2) in
+      let p = requiring-out _ _ _ _ (q .0) in
+      let c = then-out _ _ (t .3) in
+      let r = then-out _ _ (c .3) in
+      let k = making-out _ _ (r .3) in
+      (then-in _ _ (then-in _ _ (requiring-in _ _ _ _ (requiring-in _ _ _ _ (p .0) some-limit) refl) (h .3)) (t .3), ap (λ x. x .place) (k .2))
+
+  pub node-instance-is : (total : ℕ) (before : List NodeInstance) {i : NodeInstance} {m n next : ℕ} → done n next ≡ making nodeNumber (nodeInstanceAt s true 0 [] at)
+      → nodeInstanceAt s true total before at ≡ done i m
+      → _≡_ {A = Instance} (record { number = n; place = at; next = next }) (instanceOf (i .number) (i .place) m)
+  unfolding making
+  node-instance-is total before {i} {m} {n} {next} a e =
+      let f = node-instance-again total before e in
+      let g = done-out (a ∙ ap (making nodeNumber) (f .0)) in
+      rw (g .0, ← f .1, g .1)
+
+  pub node-instance-there : {B : Type 0} (total : ℕ) (before : List NodeInstance) {i : NodeInstance} {m w z : ℕ} → refused w z ≡ making nodeNumber (nodeInstanceAt s true 0 [] at)
+      → nodeInstanceAt s true total before at ≡ done i m → B
+  unfolding making
+  node-instance-there total before a e = never (a ∙ ap (making nodeNumber) (node-instance-again total before e .0))
+
+  -- A section that was read: its keyword, its count, and its elements.
+  module _ {A : Type 0} (word : List ℕ) (width : ℕ) (p : List A → ℕ → Parsed A) {xs : List A} {m : ℕ}
+      (e : andThen (keywordAt s at word) (λ u a. andThen (countAt s a width) λ n b. rowAt p n [] b) ≡ done xs m) where
+    pub section-rows : {u : Unit {0}} {a n b : ℕ} → done u a ≡ keywordAt s at word → done n b ≡ countAt s a width → rowAt p n [] b ≡ done xs m
+    section-rows {u} {a} {n} {b} k c =
+        let t = then-out _ _ e in
+        let h = same-done k (t .2) in
+        let d = then-out _ _ (t .3) in
+        let l : done n b ≡ countAt s (t .1) width = c ∙ rw (h .1) in
+        let i = same-done l (d .2) in
+        rw (i .0, i .1) (d .3)
+
+    pub section-named : {B : Type 0} {w z : ℕ} → refused w z ≡ keywordAt s at word → B
+    section-named k = let t = then-out _ _ e in not-refused k (t .2)
+
+    pub section-counted : {B : Type 0} {u : Unit {0}} {a w z : ℕ} → done u a ≡ keywordAt s at word → refused w z ≡ countAt s a width → B
+    section-counted {B} {u} {a} {w} {z} k c =
+        let t = then-out _ _ e in
+        let h = same-done k (t .2) in
+        let d = then-out _ _ (t .3) in
+        let l : refused w z ≡ countAt s (t .1) width = c ∙ rw (h .1) in
+        not-refused l (d .2)

@@ -1,0 +1,4 @@
+-- The laws of the tables of a file.
+pub mod Again
+pub mod FillingLaws
+pub mod ElementLaws

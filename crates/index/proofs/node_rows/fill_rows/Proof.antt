@@ -1,0 +1,109 @@
+-- The invariant: with the rows of the nodes to come, the tables are what they are to be, and k is how many instances stood in those before.
+use Prim.Native.Nat.{ℕ, _≤_, _<_}
+use mathlib.Core.Bool.{true}
+use mathlib.Core.List.{List, [], map}
+use mathlib.Core.Path.{_≡_, refl, sym, _∙_, ap}
+use native.Mathlib.Omega.{arith}
+use borrow.Author.Needs.{needs}
+use lib.ListN.{length}
+use Rattle.format.specs.Lookup.{nodeEntriesOf}
+use Rattle.format.specs.Parsed.{done, rowAt}
+use Rattle.format.specs.NodeLayout.{nodeTotal, nodeAt}
+use Rattle.nodes.proofs.NodeLaws.{node-nothing}
+use Rattle.index.specs.Rows.{filled, nodeRow}
+use Rattle.index.proofs.FillingLaws.{Sized, row-first, Filling, filling-begin, filling-next, filling-end}
+use Rattle.index.proofs.ElementLaws.{map-gathered, node-filled, node-room}
+use Rattle.index.proofs.node_rows.fill_rows.Statement.{statement}
+use Rattle.index.proofs.node_rows.fill_rows.Tie as tie
+
+abbrev Inv-loop : tie.InvT-loop
+Inv-loop s at n keys₀ kinds₀ places₀ left₀ place₀ k₀ keys kinds places left place k =
+    Sized (record { keys = keys₀; kinds = kinds₀; places = places₀ }) (record { keys = keys; kinds = kinds; places = places })
+    × Filling (nodeAt s true) (λ r. map nodeRow (nodeEntriesOf r)) (λ before j. j ≡ nodeTotal before) (rowAt (nodeAt s true) n [] at)
+    (record { keys = keys₀; kinds = kinds₀; places = places₀ }) 0 (record { keys = keys; kinds = kinds; places = places }) k left place
+
+abbrev μ-loop : tie.MeasureT-loop
+μ-loop s at n keys₀ kinds₀ places₀ left₀ place₀ k₀ keys kinds places left place k = left
+
+loop-holds : tie.Need-loop-holds Inv-loop μ-loop
+loop-holds c = (record { keys = refl; kinds = refl; places = refl }, filling-begin _ _ _ _ _ _ _ (sym node-nothing))
+
+same-length : tie.Need-same-length Inv-loop μ-loop
+same-length c = c .before .before .loop .inv .0 .keys
+
+same-length-2 : tie.Need-same-length-2 Inv-loop μ-loop
+same-length-2 c = c .before .before .loop .inv .0 .kinds
+
+same-length-3 : tie.Need-same-length-3 Inv-loop μ-loop
+same-length-3 c = c .before .before .loop .inv .0 .places
+
+returns : tie.Need-returns Inv-loop μ-loop
+returns c =
+    λ rs m e.
+    let r = c .before .before .loop .inv .1 .rest rs m e in
+    let f = row-first _ _ (r .0) _ (c .before .loop-test .taken) (r .3) in
+    let h : c .before .before .loop .k < 256 = node-room _ _ _ (r .0) (f .0) (f .1) (r .2) (f .3) in
+    let l : 256 ≤ c .before .before .loop .k = c .if1 .taken in
+    absurd (omega arith)
+
+head-at-requires : tie.Need-head-at-requires Inv-loop μ-loop
+head-at-requires c κs = search needs
+
+fill-instances-requires : tie.Need-fill-instances-requires Inv-loop μ-loop
+fill-instances-requires c κs = search needs
+
+cast-k : tie.Need-cast-k Inv-loop μ-loop
+cast-k c = search needs
+
+add-k : tie.Need-add-k Inv-loop μ-loop
+add-k c = let h = c .before .before .before .before .before .before .before .before .before .before .before .before .if1 .left in omega arith
+
+sub-left : tie.Need-sub-left Inv-loop μ-loop
+sub-left c = search needs
+
+loop-less : tie.Need-loop-less Inv-loop μ-loop
+loop-less c = search needs
+
+loop-again : tie.Need-loop-again Inv-loop μ-loop
+loop-again c =
+    let l = c .before .before .before .before .before .before .before .before .before .before .before .before .before .before .loop in (
+      record { keys = c .before .before .before .before .before .before .keys .given ∙ l .inv .0 .keys; kinds = c .before .before .before .before .kinds .given ∙ l .inv .0 .kinds; places = c .before .before .places .given ∙ l .inv .0 .places },
+      filling-next _ _ _ (l .inv .1) (c .before .before .before .before .before .before .before .before .before .before .before .before .before .loop-test .taken)
+          (node-filled _ _ _ _ (c .before .before .before .before .before .before .before .before .before .before .before .head-at .ensures) (c .before .before .before .before .before .before .before .fill-instances .ensures)),
+    )
+
+same-length-4 : tie.Need-same-length-4 Inv-loop μ-loop
+same-length-4 c = c .before .loop .inv .0 .keys
+
+same-length-5 : tie.Need-same-length-5 Inv-loop μ-loop
+same-length-5 c = c .before .loop .inv .0 .kinds
+
+same-length-6 : tie.Need-same-length-6 Inv-loop μ-loop
+same-length-6 c = c .before .loop .inv .0 .places
+
+returns-2 : tie.Need-returns-2 Inv-loop μ-loop
+returns-2 c =
+    λ rs m e. filling-end _ _ _ (c .before .loop .inv .1) (c .loop-test .left) rs m e .1 ∙ ap (filled _ 0) (sym (map-gathered nodeRow nodeEntriesOf rs))
+
+pub fill-rows-spec : {M : Type 1} → statement M
+fill-rows-spec =
+    tie.close
+    (tie.spec
+    Inv-loop
+    μ-loop
+    loop-holds
+    same-length
+    same-length-2
+    same-length-3
+    returns
+    head-at-requires
+    fill-instances-requires
+    cast-k
+    add-k
+    sub-left
+    loop-less
+    loop-again
+    same-length-4
+    same-length-5
+    same-length-6
+    returns-2)

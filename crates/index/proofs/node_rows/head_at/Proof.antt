@@ -1,0 +1,32 @@
+use mathlib.Core.Path.{_≡_, sym, _∙_, ap}
+use borrow.Author.Needs.{needs}
+use Rattle.nodes.specs.Nodes.{nodeHeadParsed}
+use Rattle.index.specs.Rows.{wantedKind}
+use Rattle.index.proofs.Again.{node-head-is, node-head-again, not-refused}
+use Rattle.index.proofs.node_rows.head_at.Statement.{statement}
+use Rattle.index.proofs.node_rows.head_at.Tie as tie
+
+returns : tie.Need-returns
+unfolding wantedKind
+returns c =
+    λ ids h m. node-head-is _ _ ids
+    (sym (ap nodeHeadParsed (c .before .before .top .given .1)) ∙ c .before .before .before .before .node-head-at .ensures)
+
+returns-2 : tie.Need-returns-2
+returns-2 c =
+    λ ids h m e. not-refused (sym (ap nodeHeadParsed (c .enum-told .given .1)) ∙ c .before .before .node-head-at .ensures) (node-head-again _ _ ids e)
+
+pub head-at-spec : {M : Type 1} → statement M
+head-at-spec =
+    tie.close
+    (tie.spec
+    (λ c. search needs)
+    (λ c. search needs)
+    (λ c κs. search needs)
+    (λ c. search needs)
+    (λ c. search needs)
+    (λ c. search needs)
+    (λ c. search needs)
+    (λ c. search needs)
+    returns
+    returns-2)

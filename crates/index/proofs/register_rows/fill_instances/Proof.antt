@@ -1,0 +1,89 @@
+-- The invariant: with the rows of the instances to come, the tables are what they are to be.
+use Prim.Native.Nat.{ℕ, _+_}
+use mathlib.Core.Bool.{true}
+use mathlib.Core.List.{List, [], _∷_}
+use mathlib.Core.Path.{_≡_, refl, sym, _∙_, ap}
+use native.Mathlib.Omega.{arith}
+use borrow.Author.Needs.{needs}
+use Rattle.format.specs.Parsed.{done, rowAt}
+use Rattle.format.specs.RegisterLayout.{registerInstanceAt}
+use Rattle.format.specs.Tree.{RegisterInstance}
+use Rattle.index.specs.Rows.{filled, rowOf}
+use Rattle.index.proofs.FillingLaws.{Sized, sized-put, Filling, filling-begin, filling-next, filling-end, gathered-each, instance-put}
+use Rattle.index.proofs.register_rows.fill_instances.Statement.{statement}
+use Rattle.index.proofs.register_rows.fill_instances.Tie as tie
+
+abbrev Inv-loop : tie.InvT-loop
+Inv-loop s at id kind code count k keys₀ kinds₀ places₀ left₀ place₀ j₀ keys kinds places left place j =
+    (j + left ≡ k + count)
+    × Sized (record { keys = keys₀; kinds = kinds₀; places = places₀ }) (record { keys = keys; kinds = kinds; places = places })
+    × ((total : ℕ) → Filling (registerInstanceAt s true total kind) (λ i. rowOf id code (i .number) (i .place) ∷ []) (λ b x. Unit {0}) (rowAt (registerInstanceAt s true total kind) count [] at)
+    (record { keys = keys₀; kinds = kinds₀; places = places₀ }) k (record { keys = keys; kinds = kinds; places = places }) j left place)
+
+abbrev μ-loop : tie.MeasureT-loop
+μ-loop s at id kind code count k keys₀ kinds₀ places₀ left₀ place₀ j₀ keys kinds places left place j = left
+
+loop-holds : tie.Need-loop-holds Inv-loop μ-loop
+loop-holds c = (refl, record { keys = refl; kinds = refl; places = refl }, λ total. filling-begin _ _ _ _ _ _ _ tt)
+
+instance-at-requires : tie.Need-instance-at-requires Inv-loop μ-loop
+instance-at-requires c κs = search needs
+
+key-requires : tie.Need-key-requires Inv-loop μ-loop
+key-requires c κs = search needs
+
+put-row-requires : tie.Need-put-row-requires Inv-loop μ-loop
+put-row-requires c κs = search needs
+
+add-j : tie.Need-add-j Inv-loop μ-loop
+add-j c = let l = c .before .before .before .before .before .before .before .before .before .before .before .before .before .loop in omega (arith, l .inv .0)
+
+sub-left : tie.Need-sub-left Inv-loop μ-loop
+sub-left c = search needs
+
+loop-less : tie.Need-loop-less Inv-loop μ-loop
+loop-less c = search needs
+
+loop-again : tie.Need-loop-again Inv-loop μ-loop
+loop-again c =
+    let l = c .before .before .before .before .before .before .before .before .before .before .before .before .before .loop in
+    let e = c .before .before .before .before .before .before .put-row .ensures in (
+      omega (arith, l .inv .0),
+      sized-put _ _ _ _ (l .inv .1) e,
+      λ total. filling-next _ _ _ (l .inv .2 total) (c .before .before .before .before .before .before .before .before .before .before .before .before .loop-test .taken)
+          (λ before a m g q. instance-put _ _ _ _ (a .number) (a .place) (c .before .before .before .before .before .before .before .before .before .before .before .instance-at .ensures total before a m q) (c .before .before .before .before .before .before .before .key .ensures) e),
+    )
+
+same-length : tie.Need-same-length Inv-loop μ-loop
+same-length c = c .before .loop .inv .1 .keys
+
+same-length-2 : tie.Need-same-length-2 Inv-loop μ-loop
+same-length-2 c = c .before .loop .inv .1 .kinds
+
+same-length-3 : tie.Need-same-length-3 Inv-loop μ-loop
+same-length-3 c = c .before .loop .inv .1 .places
+
+returns : tie.Need-returns Inv-loop μ-loop
+returns c =
+    λ total is m e.
+    let r = filling-end _ _ _ (c .before .loop .inv .2 total) (c .loop-test .left) is m e in
+    (r .0, r .1 ∙ ap (filled _ _) (gathered-each _ is))
+
+pub fill-instances-spec : {M : Type 1} → statement M
+fill-instances-spec =
+    tie.close
+    (tie.spec
+    Inv-loop
+    μ-loop
+    loop-holds
+    instance-at-requires
+    key-requires
+    put-row-requires
+    add-j
+    sub-left
+    loop-less
+    loop-again
+    same-length
+    same-length-2
+    same-length-3
+    returns)

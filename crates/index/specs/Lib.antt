@@ -1,0 +1,2 @@
+-- The tables of a file.
+pub mod Rows

@@ -1,0 +1,60 @@
+-- The tables of a file: three columns, with a row for each register instance or node instance in file order.
+use Prim.Native.Nat.{ℕ, suc, _+_, _*_, _/_}
+use mathlib.Core.List.{List, [], _∷_}
+use lib.ListN.{set}
+use Rattle.format.specs.Lookup.{RegisterEntry, NodeEntry}
+use Rattle.format.specs.RegisterLayout.{RegisterHead}
+use Rattle.format.specs.NodeLayout.{NodeHead}
+use Rattle.tables.specs.Tables.{keyOf}
+use Rattle.index.specs.declared.Head as declared
+use Rattle.index.specs.declared.Instance.{Instance}
+
+-- What is kept of an instance.
+pub record Row : Type 0 where
+  pub key : ℕ
+  pub kind : ℕ
+  pub place : ℕ
+
+-- The three columns.
+pub record Rows : Type 0 where
+  pub keys : List ℕ
+  pub kinds : List ℕ
+  pub places : List ℕ
+
+unfoldable pub putRow : Rows → ℕ → Row → Rows
+putRow t k r = record { keys = set (t .keys) k (r .key); kinds = set (t .kinds) k (r .kind); places = set (t .places) k (r .place) }
+
+-- The columns after some rows were written from a place on.
+unfoldable pub filled : Rows → ℕ → List Row → Rows
+filled t k [] = t
+filled t k (r ∷ rs) = filled (putRow t k r) (suc k) rs
+
+-- A register's type, and whether it is readable, in one number.
+unfoldable pub kindOf : ℕ → ℕ → ℕ
+kindOf type flags = type * 2 + flags / 128
+
+-- The kind of the registers that the rules of a node of this type may name: readable, and of the type.
+unfoldable pub wantedKind : ℕ → ℕ
+wantedKind type = type * 2 + 1
+
+-- A row: the name of an instance, its kind, and a place.
+unfoldable pub rowOf : ℕ → ℕ → ℕ → ℕ → Row
+rowOf id kind number place = record { key = keyOf id number; kind = kind; place = place }
+
+-- The row of a register instance has the place of its address.
+unfoldable pub registerRow : RegisterEntry → Row
+registerRow e = rowOf (e .id) (kindOf (e .type) (e .flags)) (e .instance .number) (e .instance .place)
+
+-- The row of a node instance has the kind of the registers that its rules may name, and the place of the number byte.
+unfoldable pub nodeRow : NodeEntry → Row
+nodeRow e = rowOf (e .id) (wantedKind (e .type)) (e .instance .number) (e .instance .place)
+
+-- What is kept of the head of a register or a node, and of an instance.
+abbrev pub headOf : RegisterHead → ℕ → declared.Head
+headOf h next = record { id = h .id; kind = h .type; code = kindOf (h .type) (h .flags); count = h .count; next = next }
+
+abbrev pub instanceOf : ℕ → ℕ → ℕ → Instance
+instanceOf n p next = record { number = n; place = p; next = next }
+
+abbrev pub nodeHeadOf : NodeHead → ℕ → declared.Head
+nodeHeadOf h next = record { id = h .id; kind = h .type; code = wantedKind (h .type); count = h .count; next = next }

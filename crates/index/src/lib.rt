@@ -1,0 +1,39 @@
+// Tables of a file whose layout was read: a row for each register instance and for each node instance, in file order.
+ghost use mathlib.Core.Path.{_≡_};
+ghost use Rattle.index.specs.Rows.{Row, Rows, putRow};
+
+pub mod node_rows;
+pub mod register_rows;
+
+// What a register or a node starts with, and the place after that.
+pub struct Head {
+    pub id: u64,
+    pub kind: u8,
+    pub code: u64,
+    pub count: u8,
+    pub next: usize,
+}
+
+// A register instance or a node instance: its number, the place that its row holds, and the place after it.
+pub struct Instance {
+    pub number: u8,
+    pub place: usize,
+    pub next: usize,
+}
+
+// A row at a place of the three tables.
+pub fn put_row(
+    keys: &mut [u64],
+    kinds: &mut [u64],
+    places: &mut [u64],
+    k: usize,
+    key: u64,
+    kind: u64,
+    place: u64,
+)
+    ensures { λ r. ⌜ _≡_ {A = Rows} (record { keys = now (keys .exit); kinds = now (kinds .exit); places = now (places .exit) }) (putRow (record { keys = now (keys .entry); kinds = now (kinds .entry); places = now (places .entry) }) k (record { key = key; kind = kind; place = place })) ⌝ }
+{
+    tables::put(keys, k, key);
+    tables::put(kinds, k, kind);
+    tables::put(places, k, place);
+}
