@@ -99,12 +99,12 @@ no-more (done a n) k m {i} {j} e = let h : k ≡ i = cc in let g : m ≡ j = cc 
 no-more (refused a n) k m {i} {j} e = let h : a ≡ i = cc in let g : n ≡ j = cc in rw (h, g)
 
 module _ (s : List ℕ) (at : ℕ) where
-  expr-done : (l : ℕ) {h : Head} {a : ℕ} → headAt s l at ≡ done h a → (0 < l) × (exprAt s l at ≡ operandsOf (exprAt s (l - 1)) at h a)
+  pub expr-done : (l : ℕ) {h : Head} {a : ℕ} → headAt s l at ≡ done h a → (0 < l) × (exprAt s l at ≡ operandsOf (exprAt s (l - 1)) at h a)
   unfolding headAt andThen
   expr-done zero e = absurd (never (fieldAt s at 1) 9 at e)
   expr-done (suc l) {h} {a} e = (omega arith, rw sub-one (expr-heads s l at ∙ ap (λ q. andThen q (operandsOf (exprAt s l) at)) e))
 
-  expr-refused : (l : ℕ) {k m : ℕ} → headAt s l at ≡ refused k m → exprAt s l at ≡ refused k m
+  pub expr-refused : (l : ℕ) {k m : ℕ} → headAt s l at ≡ refused k m → exprAt s l at ≡ refused k m
   unfolding headAt exprAt andThen
   expr-refused zero e = no-more (fieldAt s at 1) 9 at e
   expr-refused (suc l) e = expr-heads s l at ∙ ap (λ q. andThen q (operandsOf (exprAt s l) at)) e

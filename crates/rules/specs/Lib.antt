@@ -1,0 +1,2 @@
+-- What the heads of expressions name.
+pub mod Names
