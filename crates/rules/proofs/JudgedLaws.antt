@@ -1,7 +1,7 @@
 -- The first fault of an expression: of the name in its head, and then of its operands, one after another.
 use Prim.Native.Nat.{ℕ, _-_, _≤_, _<_}
-use mathlib.Core.Path.{_≡_, refl, sym, _∙_, ap}
-use mathlib.Core.List.{List, [], _∷_, _++_}
+use mathlib.Core.Path.{_≡_, sym, _∙_, ap}
+use mathlib.Core.List.{List, [], _++_}
 use borrow.Author.Tests.{lt-ltb, le-ltb, eq-eqb, ne-eqb}
 use lib.ListN.{length, getD}
 use Rattle.format.specs.declared.Refusal.{Refusal}
@@ -23,7 +23,7 @@ use Rattle.tables.specs.Faults.{judgedAt, positionIn, present, nameFaults}
 use Rattle.tables.proofs.FaultsLaws.{judged-none, judged-stop, judged-on}
 use Rattle.rules.specs.Names.{ownNames}
 use Rattle.rules.proofs.NamesLaws.{named-built}
-use Rattle.rules.proofs.OperandsLaws.{Ahead, opened, Turn, turn, turned}
+use Rattle.rules.proofs.OperandsLaws.{Ahead, opened, turn, turned}
 
 -- One name, found at position k of the keys.
 module _ (keys kinds : List ℕ) (type at id n m : ℕ) {k : ℕ} where

@@ -5,8 +5,8 @@ use mathlib.Core.List.{List, [], _∷_, _++_, append-nil}
 use native.Mathlib.Omega.{arith}
 use lib.ListN.{length}
 use Rattle.format.specs.Lookup.{gathered}
-use Rattle.format.specs.References.{Named, namedBy, namedByAll}
-use Rattle.format.specs.Tree.{Expr, Exprs, gather}
+use Rattle.format.specs.References.{namedBy, namedByAll}
+use Rattle.format.specs.Tree.{Expr, gather}
 use Rattle.expressions.specs.declared.Head.{Head}
 use Rattle.expressions.specs.declared.Head.the-variants.{Reading, Constant, All, Any, Inverse, Left, Right}
 use Rattle.expressions.specs.Heads.{arityOf, built, firstOf}

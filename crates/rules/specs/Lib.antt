@@ -1,2 +1,4 @@
--- What the heads of expressions name.
+-- What expressions name and are worth, and what of it their heads say.
 pub mod Names
+pub mod Value
+pub mod Combining
