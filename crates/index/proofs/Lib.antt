@@ -2,3 +2,5 @@
 pub mod Again
 pub mod FillingLaws
 pub mod ElementLaws
+pub mod PartsLaws
+pub mod RowsLaws

@@ -1,10 +1,13 @@
 -- The tables of a file: three columns, with a row for each register instance or node instance in file order.
 use Prim.Native.Nat.{ℕ, suc, _+_, _*_, _/_}
+use mathlib.Core.Bool.{true}
 use mathlib.Core.List.{List, [], _∷_}
+use mathlib.Core.Path.{_≡_}
 use lib.ListN.{set}
 use Rattle.format.specs.Lookup.{RegisterEntry, NodeEntry}
 use Rattle.format.specs.RegisterLayout.{RegisterHead}
-use Rattle.format.specs.NodeLayout.{NodeHead}
+use Rattle.format.specs.NodeLayout.{NodeHead, nodeInstanceAt}
+use Rattle.format.specs.Parsed.{done}
 use Rattle.tables.specs.Tables.{keyOf}
 use Rattle.index.specs.declared.Head as declared
 use Rattle.index.specs.declared.Instance.{Instance}
@@ -58,3 +61,8 @@ instanceOf n p next = record { number = n; place = p; next = next }
 
 abbrev pub nodeHeadOf : NodeHead → ℕ → declared.Head
 nodeHeadOf h next = record { id = h .id; kind = h .type; code = wantedKind (h .type); count = h .count; next = next }
+
+-- A node instance is read again at its place.
+pub record ReadAgain (s : List ℕ) (e : NodeEntry) : Type 0 where
+  pub next : ℕ
+  pub read : nodeInstanceAt s true 0 [] (e .instance .place) ≡ done (e .instance) next

@@ -78,7 +78,7 @@ fn capture_at(s: &[u8], at: usize) -> NextRead
 }
 
 // The captured registers of a node instance. It reads each once.
-fn captures_at(s: &[u8], at: usize, n: u8) -> NextRead
+pub fn captures_at(s: &[u8], at: usize, n: u8) -> NextRead
     ensures { λ r. ⌜ nextParsed r ≡ forget (rowAt (captureAt (now (s .entry))) n [] at) ⌝ }
 {
     let mut left = n;
@@ -116,7 +116,7 @@ fn rule_at(s: &[u8], at: usize, seen: &[u8]) -> ByteRead
 }
 
 // The rules of a node instance. It reads each once.
-fn rules_at(s: &[u8], at: usize, n: u8) -> NextRead
+pub fn rules_at(s: &[u8], at: usize, n: u8) -> NextRead
     ensures { λ r. ⌜ nextParsed r ≡ forget (rowAt (ruleAt (now (s .entry)) true) n [] at) ⌝ }
 {
     let mut seen = [0u8; 256];
@@ -235,7 +235,7 @@ fn counts_at(s: &[u8], at: usize, number: u8, captures: u8) -> InstanceHeadRead
 }
 
 // What a node instance starts with. `seen` marks the numbers before it in the node, and `begun` instances stand before it in the file.
-fn instance_head_at(s: &[u8], at: usize, begun: usize, seen: &[u8]) -> InstanceHeadRead
+pub fn instance_head_at(s: &[u8], at: usize, begun: usize, seen: &[u8]) -> InstanceHeadRead
     ensures { λ r. ⌜ ((numbers : List ℕ) → Tells (unmarked (now (seen .entry))) numbers → instanceHeadParsed r ≡ instanceHeadAt (now (s .entry)) true begun numbers at) ⌝ }
 {
     let b = instance_number_at(s, at, begun, format::NODE_LIMIT, seen);

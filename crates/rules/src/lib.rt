@@ -48,7 +48,7 @@ fn entry(table: &[u64], k: usize) -> u64
 }
 
 // The position of a register instance among the keys, or their number.
-fn name_position(keys: &[u64], id: u64, number: u8) -> usize
+pub fn name_position(keys: &[u64], id: u64, number: u8) -> usize
     ensures { λ r. ⌜ r ≡ positionIn (now (keys .entry)) id number ⌝ }
 {
     position_of(keys, key(id, number))

@@ -1,0 +1,3 @@
+-- The laws of faults by tables.
+pub mod JudgingLaws
+pub mod PartsLaws

@@ -1,0 +1,37 @@
+use mathlib.Core.Path.{_≡_, sym, _∙_, ap}
+use borrow.Author.Needs.{needs}
+use Rattle.fields.specs.Views.{byteParsed, numberParsed}
+use Rattle.references.proofs.PartsLaws.{child-judged, child-there, child-named, child-bit}
+use Rattle.references.proofs.child_fault.Statement.{statement}
+use Rattle.references.proofs.child_fault.Tie as tie
+
+returns : tie.Need-returns
+returns c = child-judged _ _ (sym (ap byteParsed (c .before .before .before .before .before .before .before .before .before .before .b .given .1)) ∙ c .before .before .before .before .before .before .before .before .before .before .before .before .byte-at .ensures) (sym (ap numberParsed (c .before .before .before .before .before .before .i .given .1)) ∙ c .before .before .before .before .before .before .before .before .number-at .ensures) _ (sym (ap byteParsed (c .before .before .n .given .1)) ∙ c .before .before .before .before .byte-at2 .ensures) (c .name-fault .ensures)
+
+returns-2 : tie.Need-returns-2
+returns-2 c = λ before k m e. child-there _ _ (sym (ap byteParsed (c .before .before .before .before .before .before .before .before .before .b .given .1)) ∙ c .before .before .before .before .before .before .before .before .before .before .before .byte-at .ensures) (sym (ap numberParsed (c .before .before .before .before .before .i .given .1)) ∙ c .before .before .before .before .before .before .before .number-at .ensures) (sym (ap byteParsed (c .before .n2 .given .1)) ∙ c .before .before .before .byte-at2 .ensures) before k m e
+
+returns-3 : tie.Need-returns-3
+returns-3 c = λ before k m e. child-named _ _ (sym (ap byteParsed (c .before .before .before .before .before .b .given .1)) ∙ c .before .before .before .before .before .before .before .byte-at .ensures) (sym (ap numberParsed (c .before .i2 .given .1)) ∙ c .before .before .before .number-at .ensures) before k m e
+
+returns-4 : tie.Need-returns-4
+returns-4 c = λ before k m e. child-bit _ _ (sym (ap byteParsed (c .before .b2 .given .1)) ∙ c .before .before .before .byte-at .ensures) before k m e
+
+pub child-fault-spec : {M : Type 1} → statement M
+child-fault-spec =
+    tie.close
+    (tie.spec
+    (λ c κs. search needs)
+    (λ c. search needs)
+    (λ c κs. search needs)
+    (λ c. search needs)
+    (λ c κs. search needs)
+    (λ c. search needs)
+    (λ c κs. search needs)
+    (λ c. search needs)
+    (λ c. search needs)
+    (λ c. search needs)
+    returns
+    returns-2
+    returns-3
+    returns-4)

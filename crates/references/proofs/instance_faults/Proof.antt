@@ -1,0 +1,49 @@
+use mathlib.Core.List.{[]}
+use mathlib.Core.Path.{_≡_, sym, _∙_, ap}
+use borrow.Author.Needs.{needs}
+use Rattle.fields.specs.Views.{nextParsed}
+use Rattle.fields.proofs.SeenLaws.{tells-none}
+use Rattle.nodes.specs.Nodes.{instanceHeadParsed}
+use Rattle.references.proofs.PartsLaws.{instance-captures-no, instance-rules-no, instance-children, instance-there}
+use Rattle.references.proofs.instance_faults.Statement.{statement}
+use Rattle.references.proofs.instance_faults.Tie as tie
+
+returns : tie.Need-returns
+returns c =
+    λ total before i m e. instance-children _ _ _ _ _ _ (sym (ap instanceHeadParsed (c .before .before .before .before .before .before .before .before .before .before .top .given .1)) ∙ c .before .before .before .before .before .before .before .before .before .before .before .before .instance-head-at .ensures [] (tells-none 1)) total before i m e
+    (c .before .before .before .before .before .before .before .before .capture-faults .ensures) (ap nextParsed (c .before .before .before .before .before .before .c .given .1))
+    (c .before .before .before .before .rule-faults .ensures) (ap nextParsed (c .before .before .d .given .1)) (c .child-faults .ensures)
+
+returns-2 : tie.Need-returns-2
+returns-2 c =
+    λ total before i m e. instance-rules-no _ _ _ _ _ _ (sym (ap instanceHeadParsed (c .before .before .before .before .before .before .before .before .before .top .given .1)) ∙ c .before .before .before .before .before .before .before .before .before .before .before .instance-head-at .ensures [] (tells-none 1)) total before i m e
+    (c .before .before .before .before .before .before .before .capture-faults .ensures) (ap nextParsed (c .before .before .before .before .before .c .given .1))
+    (c .before .before .before .rule-faults .ensures) (ap nextParsed (c .before .d2 .given .1))
+
+returns-3 : tie.Need-returns-3
+returns-3 c =
+    λ total before i m e. instance-captures-no _ _ _ _ _ _ (sym (ap instanceHeadParsed (c .before .before .before .before .before .top .given .1)) ∙ c .before .before .before .before .before .before .before .instance-head-at .ensures [] (tells-none 1)) total before i m e
+    (c .before .before .before .capture-faults .ensures) (ap nextParsed (c .before .c2 .given .1))
+
+returns-4 : tie.Need-returns-4
+returns-4 c = λ total before i m e. instance-there _ _ (sym (ap instanceHeadParsed (c .before .top2 .given .1)) ∙ c .before .before .before .instance-head-at .ensures [] (tells-none 1)) total before i m e
+
+pub instance-faults-spec : {M : Type 1} → statement M
+instance-faults-spec =
+    tie.close
+    (tie.spec
+    (λ c. search needs)
+    (λ c κs. search needs)
+    (λ c. search needs)
+    (λ c κs. search needs)
+    (λ c. search needs)
+    (λ c κs. search needs)
+    (λ c. search needs)
+    (λ c κs. search needs)
+    (λ c. search needs)
+    (λ c. search needs)
+    (λ c. search needs)
+    returns
+    returns-2
+    returns-3
+    returns-4)

@@ -1,0 +1,2 @@
+-- Faults by the tables of a file.
+pub mod FaultsIn
