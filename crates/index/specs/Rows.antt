@@ -66,3 +66,10 @@ nodeHeadOf h next = record { id = h .id; kind = h .type; code = wantedKind (h .t
 pub record ReadAgain (s : List ℕ) (e : NodeEntry) : Type 0 where
   pub next : ℕ
   pub read : nodeInstanceAt s true 0 [] (e .instance .place) ≡ done (e .instance) next
+
+-- The place and the kind in the row of a node instance.
+abbrev pub entryPlace : NodeEntry → ℕ
+entryPlace e = e .instance .place
+
+abbrev pub entryWanted : NodeEntry → ℕ
+entryWanted e = wantedKind (e .type)

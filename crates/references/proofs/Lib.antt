@@ -1,3 +1,6 @@
 -- The laws of faults by tables.
 pub mod JudgingLaws
 pub mod PartsLaws
+pub mod KeysLaws
+pub mod TablesLaws
+pub mod ScanLaws

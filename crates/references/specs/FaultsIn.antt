@@ -1,10 +1,11 @@
 -- The faults of 12 and 13 by the tables of a file: the keys and kinds of the register instances, and the keys of the node instances.
 use Prim.Native.Nat.{ℕ}
 use mathlib.Core.List.{List, _++_}
-use Rattle.format.specs.Lookup.{gathered}
+use Rattle.format.specs.Lookup.{gathered, NodeEntry}
 use Rattle.format.specs.References.{Fault, unless, namedBy}
 use Rattle.format.specs.Tree.{Capture, Rule, Child, NodeInstance}
 use Rattle.tables.specs.Faults.{present, nameFaults}
+use Rattle.index.specs.Rows.{wantedKind}
 
 -- A capture of a register instance that is absent.
 unfoldable pub captureFaultsIn : List ℕ → Capture → List Fault
@@ -23,3 +24,6 @@ unfoldable pub instanceFaultsIn : List ℕ → List ℕ → List ℕ → ℕ →
 instanceFaultsIn keys kinds nodes kind i =
     gathered (captureFaultsIn keys) (i .captures)
     ++ (gathered (ruleFaultsIn keys kinds kind) (i .rules) ++ gathered (childFaultsIn nodes) (i .children))
+
+unfoldable pub entryFaultsIn : List ℕ → List ℕ → List ℕ → NodeEntry → List Fault
+entryFaultsIn keys kinds nodes e = instanceFaultsIn keys kinds nodes (wantedKind (e .type)) (e .instance)

@@ -10,18 +10,21 @@ use nodes::InstanceHeadRead;
 use nodes::instance_head_at;
 use numbers::Width;
 use rules::name_position;
+use tables::entry;
 ghost use Prim.Native.Nat.{ℕ};
 ghost use mathlib.Core.Bool.{true};
-ghost use mathlib.Core.List.{List, []};
+ghost use mathlib.Core.List.{List, [], map};
 ghost use mathlib.Core.Path.{_≡_};
-ghost use Rattle.format.specs.Lookup.{gathered};
+ghost use Rattle.format.specs.Lookup.{gathered, NodeEntry};
 ghost use Rattle.format.specs.NodeLayout.{captureAt, ruleAt, childAt, nodeInstanceAt};
 ghost use Rattle.format.specs.Parsed.{done, rowAt};
 ghost use Rattle.format.specs.References.{unless};
+ghost use Rattle.format.specs.Rules.{Every};
 ghost use Rattle.format.specs.Tree.{Capture, Rule, Child, NodeInstance};
 ghost use Rattle.fields.specs.Views.{nextParsed};
 ghost use Rattle.tables.specs.Faults.{judgedAt, present};
-ghost use Rattle.references.specs.FaultsIn.{captureFaultsIn, ruleFaultsIn, childFaultsIn, instanceFaultsIn};
+ghost use Rattle.index.specs.Rows.{ReadAgain, entryPlace, entryWanted};
+ghost use Rattle.references.specs.FaultsIn.{captureFaultsIn, ruleFaultsIn, childFaultsIn, instanceFaultsIn, entryFaultsIn};
 
 // A name that has to be among the keys: 12 at `at` where it is not, otherwise the place after it.
 fn name_fault(keys: &[u64], id: u64, number: u8, at: usize, next: usize) -> NextRead
@@ -182,4 +185,30 @@ pub fn instance_faults(
         }
         InstanceHeadRead::Refused(r) => NextRead::Refused(r),
     }
+}
+
+// The first fault of all node instances in file order. `places` and `wanted` are the places and the kinds of their rows. It looks up each name once.
+pub fn node_faults(
+    s: &[u8],
+    places: &[u64],
+    wanted: &[u64],
+    keys: &[u64],
+    kinds: &[u64],
+    nodes: &[u64],
+) -> NextRead
+    ensures { λ r. ⌜ ((es : List NodeEntry) → Every (ReadAgain (now (s .entry))) es → now (places .entry) ≡ map entryPlace es → now (wanted .entry) ≡ map entryWanted es → nextParsed r ≡ judgedAt (gathered (entryFaultsIn (now (keys .entry)) (now (kinds .entry)) (now (nodes .entry))) es) 0) ⌝ }
+{
+    let mut i = 0;
+    while i < places.len() {
+        let at = places[i] as usize;
+        let f = instance_faults(s, at, entry(wanted, i), keys, kinds, nodes);
+        match f {
+            NextRead::Next(_) => {}
+            NextRead::Refused(r) => {
+                return NextRead::Refused(r);
+            }
+        }
+        i += 1;
+    }
+    NextRead::Next(0)
 }

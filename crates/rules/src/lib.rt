@@ -11,6 +11,7 @@ use numbers::left_word;
 use numbers::not_word;
 use numbers::or_word;
 use numbers::right_word;
+use tables::entry;
 use tables::key;
 use tables::position_of;
 ghost use Prim.Native.Nat.{ℕ};
@@ -35,16 +36,6 @@ pub struct Value {
     pub unread: bool,
     pub place: usize,
     pub next: usize,
-}
-
-// The number at a position of a table; 0 where the table has no such position.
-fn entry(table: &[u64], k: usize) -> u64
-    ensures { λ r. ⌜ r ≡ getD (now (table .entry)) k 0 ⌝ }
-{
-    if k < table.len() {
-        return table[k];
-    }
-    0
 }
 
 // The position of a register instance among the keys, or their number.

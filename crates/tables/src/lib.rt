@@ -1,7 +1,7 @@
 // Tables of numbers: what a name is kept as, where it stands, and writing.
 ghost use mathlib.Core.Path.{_≡_};
 ghost use lib.Dec.{eqb};
-ghost use lib.ListN.{set};
+ghost use lib.ListN.{getD, set};
 ghost use Rattle.format.specs.Lookup.{position};
 ghost use Rattle.tables.specs.Tables.{keyOf};
 
@@ -33,4 +33,14 @@ pub fn put(table: &mut [u64], k: usize, x: u64)
     if k < table.len() {
         table[k] = x;
     }
+}
+
+// The number at a position of a table; 0 where the table has no such position.
+pub fn entry(table: &[u64], k: usize) -> u64
+    ensures { λ r. ⌜ r ≡ getD (now (table .entry)) k 0 ⌝ }
+{
+    if k < table.len() {
+        return table[k];
+    }
+    0
 }

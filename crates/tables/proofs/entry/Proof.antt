@@ -1,8 +1,8 @@
 use mathlib.Core.Path.{sym}
 use borrow.Author.Needs.{needs}
 use lib.ListN.{List·getD-eq-default}
-use Rattle.rules.proofs.entry.Statement.{statement}
-use Rattle.rules.proofs.entry.Tie as tie
+use Rattle.tables.proofs.entry.Statement.{statement}
+use Rattle.tables.proofs.entry.Tie as tie
 
 pub entry-spec : {M : Type 1} → statement M
 entry-spec =

@@ -1,0 +1,94 @@
+-- Judging all node instances, one after another.
+use Prim.Native.Nat.{ℕ, zero, suc, _+_, _≤_, _<_}
+use mathlib.Core.Bool.{true}
+use mathlib.Core.List.{List, [], _∷_, _++_, map}
+use mathlib.Core.Path.{_≡_, refl, sym, _∙_, ap, subst}
+use native.Mathlib.Numerals.{add-one}
+use native.Mathlib.Omega.{arith}
+use lib.ListN.{length, getD, drop, drop-of-length-le}
+use lib.Seq.{drop-cons}
+use Rattle.format.specs.Lookup.{gathered, NodeEntry}
+use Rattle.format.specs.NodeLayout.{nodeInstanceAt}
+use Rattle.format.specs.Parsed.{Parsed, done, refused}
+use Rattle.format.specs.Rules.{Every}
+use Rattle.format.specs.Tree.{NodeInstance}
+use Rattle.format.specs.References.{Fault}
+use Rattle.tables.specs.Faults.{judgedAt}
+use Rattle.tables.proofs.FaultsLaws.{judged-none, judged-stop, judged-on}
+use Rattle.index.specs.Rows.{ReadAgain, wantedKind, entryPlace, entryWanted}
+use Rattle.references.specs.FaultsIn.{instanceFaultsIn, entryFaultsIn}
+
+-- What stands at a position, and what follows it.
+pub drop-first : (xs : List ℕ) (i : ℕ) {x : ℕ} {rest : List ℕ} → drop i xs ≡ x ∷ rest → (getD xs i 0 ≡ x) × (drop (i + 1) xs ≡ rest)
+drop-first [] zero e = let z : _≡_ {A = ℕ} 0 1 = cc in absurd (omega arith)
+drop-first [] (suc i) e = let z : _≡_ {A = ℕ} 0 1 = cc in absurd (omega arith)
+drop-first (y ∷ xs) zero {x} {rest} e = (let p : y ≡ x = cc in p, let q : xs ≡ rest = cc in q)
+drop-first (y ∷ xs) (suc i) e = let r = drop-first xs i e in (r .0, rw add-one (sym (ap (λ k. drop k xs) (add-one i)) ∙ r .1))
+
+-- A column from a position on has a first element where the position is inside it.
+pub column-first : {E : Type 0} (f : E → ℕ) (xs : List ℕ) (i : ℕ) (ys : List E) → i < length xs → drop i xs ≡ map f ys
+    → (y : E) × (zs : List E) × (y ∷ zs ≡ ys) × (getD xs i 0 ≡ f y) × (drop (i + 1) xs ≡ map f zs)
+column-first f xs i [] h e = let z : getD xs i 0 ∷ drop (suc i) xs ≡ [] = sym (drop-cons xs i 0 h) ∙ e in let w : _≡_ {A = ℕ} 0 1 = cc in absurd (omega arith)
+column-first f xs i (y ∷ ys) h e = let r = drop-first xs i e in (y, ys, refl, r .0, r .1)
+
+pub column-none : {E : Type 0} (f : E → ℕ) (xs : List ℕ) (i : ℕ) (ys : List E) → length xs ≤ i → drop i xs ≡ map f ys → ys ≡ []
+column-none f xs i [] h e = refl
+column-none f xs i (y ∷ ys) h e = let z : [] ≡ f y ∷ map f ys = sym (drop-of-length-le xs h) ∙ e in let w : _≡_ {A = ℕ} 0 1 = cc in absurd (omega arith)
+
+-- Those before i have no fault, so that the faults of those from i on decide.
+pub record Scanning (s places wanted : List ℕ) (faults : NodeEntry → List Fault) (i : ℕ) : Type 0 where
+  pub rest : (es : List NodeEntry) → Every (ReadAgain s) es → places ≡ map entryPlace es → wanted ≡ map entryWanted es
+      → (ys : List NodeEntry) × Every (ReadAgain s) ys × (drop i places ≡ map entryPlace ys) × (drop i wanted ≡ map entryWanted ys)
+      × (judgedAt (gathered faults es) 0 ≡ judgedAt (gathered faults ys) 0)
+
+module _ (s places wanted keys kinds nodes : List ℕ) where
+  abbrev pub Scan : ℕ → Type 0
+  Scan i = Scanning s places wanted (entryFaultsIn keys kinds nodes) i
+
+  -- What the code learns of the instance at a position.
+  abbrev Judges : ℕ → ℕ → Parsed (Unit {0}) → Type 0
+  Judges i k y =
+      (total : ℕ) (before : List NodeInstance) (a : NodeInstance) (m : ℕ) → nodeInstanceAt s true total before (getD places i 0) ≡ done a m
+      → y ≡ judgedAt (instanceFaultsIn keys kinds nodes k a) m
+
+  pub scan-begin : Scan 0
+  scan-begin = record { rest = λ es h p w. (es, h, p, w, refl) }
+
+  module _ {i : ℕ} (f : Scan i) (h : i < length places) {k : ℕ} (kind : k ≡ getD wanted i 0) {y : Parsed (Unit {0})} (judges : Judges i k y)
+      (es : List NodeEntry) (again : Every (ReadAgain s) es) (p : places ≡ map entryPlace es) (w : wanted ≡ map entryWanted es) where
+    -- The instance at i, and what its faults say.
+    first-judged : (e : NodeEntry) × (zs : List NodeEntry) × (m : ℕ) × Every (ReadAgain s) zs × (drop (i + 1) places ≡ map entryPlace zs) × (drop (i + 1) wanted ≡ map entryWanted zs)
+        × (y ≡ judgedAt (entryFaultsIn keys kinds nodes e) m)
+        × (judgedAt (gathered (entryFaultsIn keys kinds nodes) es) 0 ≡ judgedAt (entryFaultsIn keys kinds nodes e ++ gathered (entryFaultsIn keys kinds nodes) zs) 0)
+    unfolding gathered entryFaultsIn Every
+    first-judged =
+        let r = f .rest es again p w in
+        let d = column-first entryPlace places i (r .0) h (r .2) in
+        let e = d .0 in
+        let zs = d .1 in
+        let a : Every (ReadAgain s) (e ∷ zs) = subst (Every (ReadAgain s)) (sym (d .2)) (r .1) in
+        let v : drop i wanted ≡ map entryWanted (e ∷ zs) = subst (λ z. drop i wanted ≡ map entryWanted z) (sym (d .2)) (r .3) in
+        let g = drop-first wanted i v in
+        let b : nodeInstanceAt s true 0 [] (getD places i 0) ≡ done (e .instance) (a .0 .next) = rw (d .3) (a .0 .read) in
+        (e, zs, a .0 .next, a .1, d .4, g .1, judges 0 [] (e .instance) (a .0 .next) b ∙ rw (kind, g .0), r .4 ∙ ap (λ z. judgedAt (gathered (entryFaultsIn keys kinds nodes) z) 0) (sym (d .2)))
+
+    pub scan-refused : {n q : ℕ} → y ≡ refused n q → refused n q ≡ judgedAt (gathered (entryFaultsIn keys kinds nodes) es) 0
+    scan-refused t = let r = first-judged in sym (r .7 ∙ judged-stop _ _ _ _ (sym (r .6) ∙ t))
+
+  module _ {i : ℕ} (f : Scan i) (h : i < length places) {k : ℕ} (kind : k ≡ getD wanted i 0) {y : Parsed (Unit {0})} (judges : Judges i k y) where
+    pub scan-next : {u : Unit {0}} {b : ℕ} → y ≡ done u b → Scan (i + 1)
+    scan-next t =
+        record {
+          rest = λ es again p w.
+              let r = first-judged f h kind judges es again p w in
+              let j = judged-on (entryFaultsIn keys kinds nodes (r .0)) (gathered (entryFaultsIn keys kinds nodes) (r .1)) 0 (sym (r .6) ∙ t) in
+              (r .1, r .3, r .4, r .5, r .7 ∙ j .1);
+        }
+
+  pub scan-end : {i : ℕ} → Scan i → length places ≤ i → (es : List NodeEntry) → Every (ReadAgain s) es → places ≡ map entryPlace es → wanted ≡ map entryWanted es
+      → done tt 0 ≡ judgedAt (gathered (entryFaultsIn keys kinds nodes) es) 0
+  unfolding gathered
+  scan-end {i} f h es again p w =
+      let r = f .rest es again p w in
+      let n = column-none entryPlace places i (r .0) h (r .2) in
+      sym (r .4 ∙ ap (λ z. judgedAt (gathered (entryFaultsIn keys kinds nodes) z) 0) n ∙ judged-none 0)

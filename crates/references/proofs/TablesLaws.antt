@@ -1,0 +1,154 @@
+-- The faults by the tables of a chip are the faults of the chip.
+use Prim.Native.Nat.{ℕ, _^_, _≤_, _<_}
+use mathlib.Core.Bool.{Bool, true, false, _&&_}
+use mathlib.Core.List.{List, [], _∷_, _++_, map}
+use mathlib.Core.Logic.{_⊎_, ⊎-elim}
+use mathlib.Core.Path.{_≡_, refl, sym, _∙_, ap, subst}
+use native.Mathlib.Omega.{arith}
+use lib.Dec.{eqb, ltb}
+use lib.ListN.{length, getD, length-map, List·getD-eq-default}
+use borrow.Author.Tests.{ne-eqb, ltb-true, ltb-false}
+use Rattle.numbers.proofs.Bools.{either, clash, and-left, and-right, and-both}
+use Rattle.format.specs.Lookup.{some, position, at, gathered, RegisterEntry, registerEntries, entriesOf, registerNamed, NodeEntry, nodeEntries, nodeEntriesOf, nodeNamed, registerPosition}
+use Rattle.format.specs.References.{Named, Fault, unless, namedBy, fits, hasRegister, hasNode, captureFaults, namedFaults, ruleFaults, childFaults, instanceFaults}
+use Rattle.format.specs.Rules.{Every, ExprFits, FieldsFit, NamesUnique, allCaptures, allRules, allChildren}
+use Rattle.format.specs.Tree.{Capture, Rule, Child, Chip}
+use Rattle.format.proofs.EveryLaws.{every-map, every-both, every-list-in, every-gathered-in, every-gathered-out}
+use Rattle.format.proofs.Grouping.{LayoutMeets}
+use Rattle.format.proofs.PositionsLaws.{register-position, every-at}
+use Rattle.tables.specs.Tables.{keyOf}
+use Rattle.tables.specs.Faults.{positionIn, present, nameFaults}
+use Rattle.index.specs.Rows.{kindOf, wantedKind}
+use Rattle.references.specs.FaultsIn.{captureFaultsIn, ruleFaultsIn, childFaultsIn, instanceFaultsIn}
+use Rattle.references.proofs.KeysLaws.{kind-same, position-keys, some-position, some-out, some-in, position-at, column-at, every-all, gathered-same, Fitting, names-fit}
+
+same-bool : (a b : Bool) → (a ≡ true → b ≡ true) → (b ≡ true → a ≡ true) → a ≡ b
+same-bool true b f g = sym (f refl)
+same-bool false true f g = clash (g refl) refl
+same-bool false false f g = refl
+
+-- The columns of a chip's tables.
+abbrev pub registerKeys : Chip → List ℕ
+registerKeys c = map (λ e. keyOf (e .id) (e .instance .number)) (registerEntries c)
+
+abbrev pub registerKinds : Chip → List ℕ
+registerKinds c = map (λ e. kindOf (e .type) (e .flags)) (registerEntries c)
+
+abbrev pub nodeKeys : Chip → List ℕ
+nodeKeys c = map (λ e. keyOf (e .id) (e .instance .number)) (nodeEntries c)
+
+module _ (c : Chip) (fit : FieldsFit c) where
+  registers-fit : Every (λ e. (e .id < 256 ^ 3) × (e .flags < 256)) (registerEntries c)
+  unfolding registerEntries entriesOf
+  registers-fit =
+      every-gathered-in _ entriesOf (c .registers)
+      (every-map _ _ (λ r h. every-list-in _ _ (r .instances) (every-all _ (λ i. (h .0, h .1)) (r .instances))) (c .registers) (fit .registers))
+
+  register-names : Every (λ e. (e .id < 256 ^ 3) × (e .instance .number < 256)) (registerEntries c)
+  register-names = every-map _ _ (λ e h. (h .0 .0, h .1 .0)) (registerEntries c) (every-both _ _ (registerEntries c) registers-fit (fit .registerInstances))
+
+  nodes-fit : Every (λ e. e .id < 256 ^ 2) (nodeEntries c)
+  unfolding nodeEntries nodeEntriesOf
+  nodes-fit =
+      every-gathered-in _ nodeEntriesOf (c .nodes)
+      (every-map _ _ (λ n h. every-list-in _ _ (n .instances) (every-all _ (λ i. h .0) (n .instances))) (c .nodes) (fit .nodes))
+
+  node-names : Every (λ e. (e .id < 256 ^ 3) × (e .instance .number < 256)) (nodeEntries c)
+  node-names = every-map _ _ (λ e h. (omega (arith, h .0), h .1 .0)) (nodeEntries c) (every-both _ _ (nodeEntries c) nodes-fit (fit .nodeInstances))
+
+  -- A name's position by key is its position.
+  pub register-position-in : (id number : ℕ) → id < 256 ^ 3 → number < 256 → positionIn (registerKeys c) id number ≡ position (registerNamed id number) (registerEntries c)
+  unfolding positionIn registerNamed
+  register-position-in id number hi hn = position-keys (λ e. e .id) (λ e. e .instance .number) id number hi hn (registerEntries c) register-names
+
+  pub node-position-in : (id number : ℕ) → id < 256 ^ 3 → number < 256 → positionIn (nodeKeys c) id number ≡ position (nodeNamed id number) (nodeEntries c)
+  unfolding positionIn nodeNamed
+  node-position-in id number hi hn = position-keys (λ e. e .id) (λ e. e .instance .number) id number hi hn (nodeEntries c) node-names
+
+  pub register-present : (id number : ℕ) → id < 256 ^ 3 → number < 256 → present (registerKeys c) id number ≡ hasRegister c id number
+  unfolding present hasRegister
+  register-present id number hi hn =
+      rw (register-position-in id number hi hn, length-map (registerEntries c) (λ e. keyOf (e .id) (e .instance .number))) (sym (some-position _ (registerEntries c)))
+
+  pub node-present : (id number : ℕ) → id < 256 ^ 3 → number < 256 → present (nodeKeys c) id number ≡ hasNode c id number
+  unfolding present hasNode
+  node-present id number hi hn =
+      rw (node-position-in id number hi hn, length-map (nodeEntries c) (λ e. keyOf (e .id) (e .instance .number))) (sym (some-position _ (nodeEntries c)))
+
+  module _ (unique : NamesUnique c) where
+    -- The kind at a name's position is the wanted one exactly when the register fits.
+    module _ (type id number : ℕ) where
+      kind-inside : position (registerNamed id number) (registerEntries c) < length (registerEntries c)
+          → eqb (getD (registerKinds c) (position (registerNamed id number) (registerEntries c)) 0) (wantedKind type)
+          ≡ some (λ e. registerNamed id number e && fits type e) (registerEntries c)
+      unfolding fits registerPosition
+      kind-inside h =
+          let d = position-at (registerNamed id number) (registerEntries c) h in
+          let e = d .0 in
+          let k : getD (registerKinds c) (position (registerNamed id number) (registerEntries c)) 0 ≡ kindOf (e .type) (e .flags) = column-at (λ e. kindOf (e .type) (e .flags)) (registerEntries c) _ (d .1) in
+          let f = every-at _ _ (registerEntries c) registers-fit (d .1) in
+          rw (k, kind-same (e .type) (e .flags) type (f .1))
+          (same-bool _ _
+          (λ q. some-in _ (registerEntries c) _ (d .1) (and-both (d .2) q))
+          (λ q.
+          let o = some-out (λ e. registerNamed id number e && fits type e) (registerEntries c) q in
+          let p : position (registerNamed id number) (registerEntries c) ≡ o .0 = register-position c unique (o .0) id number (o .2) (and-left _ _ (o .3)) in
+          let s : at (o .0) (registerEntries c) ≡ e ∷ [] = subst (λ i. at i (registerEntries c) ≡ e ∷ []) p (d .1) in
+          let w : o .1 ≡ e = let z : o .1 ∷ [] ≡ e ∷ [] = sym (o .2) ∙ s in cc in
+          subst (λ x. fits type x ≡ true) w (and-right (registerNamed id number (o .1)) _ (o .3))))
+
+      kind-outside : length (registerEntries c) ≤ position (registerNamed id number) (registerEntries c)
+          → eqb (getD (registerKinds c) (position (registerNamed id number) (registerEntries c)) 0) (wantedKind type)
+          ≡ some (λ e. registerNamed id number e && fits type e) (registerEntries c)
+      unfolding registerPosition wantedKind
+      kind-outside h =
+          let l : length (registerKinds c) ≤ position (registerNamed id number) (registerEntries c) = rw (length-map (registerEntries c) (λ e. kindOf (e .type) (e .flags))) h in
+          let k : getD (registerKinds c) (position (registerNamed id number) (registerEntries c)) 0 ≡ 0 = List·getD-eq-default (registerKinds c) 0 l in
+          rw (k, ne-eqb 0 (wantedKind type) (λ e. omega arith))
+          (same-bool _ _ (λ q. clash q refl)
+          (λ q.
+          let o = some-out (λ e. registerNamed id number e && fits type e) (registerEntries c) q in
+          let s = some-in (registerNamed id number) (registerEntries c) (o .0) (o .2) (and-left _ _ (o .3)) in
+          let b : ltb (position (registerNamed id number) (registerEntries c)) (length (registerEntries c)) ≡ true = sym (some-position (registerNamed id number) (registerEntries c)) ∙ s in
+          absurd (let z : position (registerNamed id number) (registerEntries c) < length (registerEntries c) = ltb-true _ _ b in omega arith)))
+
+      kind-fits : id < 256 ^ 3 → number < 256
+          → eqb (getD (registerKinds c) (positionIn (registerKeys c) id number) 0) (wantedKind type)
+          ≡ some (λ e. registerNamed id number e && fits type e) (registerEntries c)
+      kind-fits hi hn =
+          rw (register-position-in id number hi hn)
+          (⊎-elim (λ h. kind-inside (ltb-true _ _ h)) (λ h. kind-outside (ltb-false _ _ h))
+          (either (ltb (position (registerNamed id number) (registerEntries c)) (length (registerEntries c)))))
+
+    named-same : (type : ℕ) (n : Named) → Fitting n → nameFaults (registerKeys c) (registerKinds c) (wantedKind type) n ≡ namedFaults c type n
+    unfolding nameFaults namedFaults
+    named-same type n h = rw (register-present (n .id) (n .number) (h .0) (h .1), kind-fits type (n .id) (n .number) (h .0) (h .1))
+
+    rule-same : (type : ℕ) (r : Rule) → ExprFits (r .expression) → ruleFaultsIn (registerKeys c) (registerKinds c) (wantedKind type) r ≡ ruleFaults c type r
+    unfolding ruleFaultsIn ruleFaults
+    rule-same type r h =
+        gathered-same _ _ (namedBy (r .expression)) (every-map _ _ (named-same type) (namedBy (r .expression)) (names-fit (r .expression) h))
+
+    capture-same : (k : Capture) → (k .id < 256 ^ 3) × (k .number < 256) → captureFaultsIn (registerKeys c) k ≡ captureFaults c k
+    unfolding captureFaultsIn captureFaults
+    capture-same k h = rw (register-present (k .id) (k .number) (h .0) (h .1))
+
+    child-same : (k : Child) → (k .id < 256 ^ 2) × (k .number < 256) → childFaultsIn (nodeKeys c) k ≡ childFaults c k
+    unfolding childFaultsIn childFaults
+    child-same k h = rw (node-present (k .id) (k .number) (omega (arith, h .0)) (h .1))
+
+    -- Each node instance has the same faults by the tables.
+    pub instances-same : Every
+        (λ e. instanceFaultsIn (registerKeys c) (registerKinds c) (nodeKeys c) (wantedKind (e .type)) (e .instance) ≡ instanceFaults c e)
+        (nodeEntries c)
+    unfolding instanceFaultsIn instanceFaults allCaptures allRules allChildren
+    instances-same =
+        every-map _ _
+        (λ (e : NodeEntry) h. rw (
+          gathered-same _ _ (e .instance .captures) (every-map _ _ capture-same (e .instance .captures) (h .0)),
+          gathered-same _ _ (e .instance .rules) (every-map _ _ (rule-same (e .type)) (e .instance .rules) (h .1 .0)),
+          gathered-same _ _ (e .instance .children) (every-map _ _ child-same (e .instance .children) (h .1 .1)),
+        ))
+        (nodeEntries c)
+        (every-both _ _ (nodeEntries c) (every-gathered-out _ _ (nodeEntries c) (fit .captures))
+        (every-both _ _ (nodeEntries c) (every-gathered-out _ _ (nodeEntries c) (fit .expressions)) (every-gathered-out _ _ (nodeEntries c) (fit .children))))
