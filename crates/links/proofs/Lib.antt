@@ -1,0 +1,3 @@
+-- The laws of what node instances lead to.
+pub mod RowLaws
+pub mod LinksLaws

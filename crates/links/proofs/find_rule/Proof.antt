@@ -1,0 +1,68 @@
+-- The invariant: no rule before is for the type, so that it is sought among those to come.
+use mathlib.Core.Bool.{true}
+use mathlib.Core.List.{[]}
+use mathlib.Core.Path.{_≡_, sym, _∙_, ap}
+use borrow.Author.Needs.{needs}
+use Rattle.format.specs.NodeLayout.{ruleAt}
+use Rattle.format.specs.Parsed.{rowAt}
+use Rattle.fields.specs.Views.{byteParsed, nextParsed}
+use Rattle.links.specs.Links.{rulePlace}
+use Rattle.links.proofs.RowLaws.{Going, going-begin, going-next, going-stop, going-end}
+use Rattle.links.proofs.LinksLaws.{rule-found, rule-other, rule-cut, rule-there, rule-none}
+use Rattle.links.proofs.find_rule.Statement.{statement}
+use Rattle.links.proofs.find_rule.Tie as tie
+
+abbrev Inv-loop : tie.InvT-loop
+Inv-loop s at n attention left₀ place₀ left place = Going (ruleAt s true) (rulePlace attention) (rowAt (ruleAt s true) n [] at) (rulePlace attention) left place
+
+abbrev μ-loop : tie.MeasureT-loop
+μ-loop s at n attention left₀ place₀ left place = left
+
+loop-holds : tie.Need-loop-holds Inv-loop μ-loop
+loop-holds c = going-begin _ _ _ _
+
+returns : tie.Need-returns Inv-loop μ-loop
+returns c =
+    going-stop _ _ (c .before .before .before .before .before .before .loop .inv) (c .before .before .before .before .before .loop-test .taken)
+    (λ before r m e. rule-found _ _ (sym (ap byteParsed (c .before .before .b .given .1)) ∙ c .before .before .before .before .byte-at .ensures) before r m e _ (c .if1 .taken))
+
+returns-2 : tie.Need-returns-2 Inv-loop μ-loop
+returns-2 c =
+    going-stop _ _ (c .before .before .before .before .before .before .before .before .before .loop .inv) (c .before .before .before .before .before .before .before .before .loop-test .taken)
+    (λ before r m e. rule-cut _ _ (sym (ap byteParsed (c .before .before .before .before .before .b .given .1)) ∙ c .before .before .before .before .before .before .before .byte-at .ensures) before r m e
+    (sym (ap nextParsed (c .enum-told .given .1)) ∙ c .before .before .expression-at .ensures))
+
+returns-3 : tie.Need-returns-3 Inv-loop μ-loop
+returns-3 c =
+    going-stop _ _ (c .before .before .before .before .loop .inv) (c .before .before .before .loop-test .taken)
+    (λ before r m e. rule-there _ _ (sym (ap byteParsed (c .enum-told2 .given .1)) ∙ c .before .before .byte-at .ensures) before r m e)
+
+loop-again : tie.Need-loop-again Inv-loop μ-loop
+loop-again c =
+    going-next _ _ (c .before .before .before .before .before .before .before .before .before .before .loop .inv) (c .before .before .before .before .before .before .before .before .before .loop-test .taken) _
+    (λ before r m e. rule-other _ _ (sym (ap byteParsed (c .before .before .before .before .before .before .b .given .1)) ∙ c .before .before .before .before .before .before .before .before .byte-at .ensures) before r m e
+    _ (c .before .before .before .before .if1 .left) (sym (ap nextParsed (c .before .e .given .1)) ∙ c .before .before .before .expression-at .ensures))
+
+returns-4 : tie.Need-returns-4 Inv-loop μ-loop
+returns-4 c = λ rs m e. rule-none _ ∙ going-end _ _ (c .before .loop .inv) (c .loop-test .left) rs m e
+
+pub find-rule-spec : {M : Type 1} → statement M
+find-rule-spec =
+    tie.close
+    (tie.spec
+    Inv-loop
+    μ-loop
+    loop-holds
+    (λ c κs. search needs)
+    (λ c. search needs)
+    returns
+    (λ c κs. search needs)
+    (λ c. search needs)
+    (λ c. search needs)
+    returns-2
+    (λ c. search needs)
+    returns-3
+    (λ c. search needs)
+    (λ c. search needs)
+    loop-again
+    returns-4)

@@ -1,0 +1,2 @@
+-- What node instances lead to.
+pub mod Links

@@ -1,0 +1,67 @@
+// What the node instances of a file whose layout was read lead to: the rule of each for an attention type.
+use expressions::expression_at;
+use fields::ByteRead;
+use fields::NextRead;
+use fields::byte_at;
+use nodes::InstanceHeadRead;
+use nodes::captures_at;
+use nodes::instance_head_at;
+ghost use Prim.Native.Nat.{ℕ};
+ghost use mathlib.Core.Bool.{true};
+ghost use mathlib.Core.List.{List, []};
+ghost use mathlib.Core.Path.{_≡_};
+ghost use Rattle.format.specs.NodeLayout.{ruleAt, nodeInstanceAt};
+ghost use Rattle.format.specs.Parsed.{done, rowAt};
+ghost use Rattle.format.specs.Tree.{Rule, NodeInstance};
+ghost use Rattle.links.specs.Links.{rulePlace};
+
+// The place of the expression of the first of so many rules that is for an attention type; 0 where there is none. It reads each byte of the rules before it once.
+fn find_rule(s: &[u8], at: usize, n: u8, attention: u8) -> usize
+    ensures { λ r. ⌜ ((rs : List Rule) (m : ℕ) → rowAt (ruleAt (now (s .entry)) true) n [] at ≡ done rs m → r ≡ rulePlace attention rs) ⌝ }
+{
+    let mut left = n;
+    let mut place = at;
+    while 0 < left {
+        let b = byte_at(s, place);
+        match b {
+            ByteRead::Byte(t, a) => {
+                if t == attention {
+                    return a;
+                }
+                let e = expression_at(s, a, format::LEVELS);
+                match e {
+                    NextRead::Next(next) => {
+                        place = next;
+                    }
+                    NextRead::Refused(_) => {
+                        return 0;
+                    }
+                }
+            }
+            ByteRead::Refused(_) => {
+                return 0;
+            }
+        }
+        left -= 1;
+    }
+    0
+}
+
+// The place of the expression of a node instance's rule for an attention type; 0 where it has none.
+pub fn rule_place(s: &[u8], at: usize, attention: u8) -> usize
+    ensures { λ r. ⌜ ((total : ℕ) (before : List NodeInstance) (i : NodeInstance) (m : ℕ) → nodeInstanceAt (now (s .entry)) true total before at ≡ done i m → r ≡ rulePlace attention (i .rules)) ⌝ }
+{
+    let none = [0u8; 1];
+    let top = instance_head_at(s, at, 0, &none);
+    match top {
+        InstanceHeadRead::Head(h, a) => {
+            let rules = h.rules;
+            let c = captures_at(s, a, h.captures);
+            match c {
+                NextRead::Next(b) => find_rule(s, b, rules, attention),
+                NextRead::Refused(_) => 0,
+            }
+        }
+        InstanceHeadRead::Refused(_) => 0,
+    }
+}
