@@ -22,7 +22,7 @@ use Rattle.index.specs.Rows.{kindOf, wantedKind}
 use Rattle.references.specs.FaultsIn.{captureFaultsIn, ruleFaultsIn, childFaultsIn, instanceFaultsIn}
 use Rattle.references.proofs.KeysLaws.{kind-same, position-keys, some-position, some-out, some-in, position-at, column-at, every-all, gathered-same, Fitting, names-fit}
 
-same-bool : (a b : Bool) → (a ≡ true → b ≡ true) → (b ≡ true → a ≡ true) → a ≡ b
+pub same-bool : (a b : Bool) → (a ≡ true → b ≡ true) → (b ≡ true → a ≡ true) → a ≡ b
 same-bool true b f g = sym (f refl)
 same-bool false true f g = clash (g refl) refl
 same-bool false false f g = refl

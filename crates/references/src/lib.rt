@@ -26,6 +26,8 @@ ghost use Rattle.tables.specs.Faults.{judgedAt, present};
 ghost use Rattle.index.specs.Rows.{ReadAgain, entryPlace, entryWanted};
 ghost use Rattle.references.specs.FaultsIn.{captureFaultsIn, ruleFaultsIn, childFaultsIn, instanceFaultsIn, entryFaultsIn};
 
+pub mod roots;
+
 // A name that has to be among the keys: 12 at `at` where it is not, otherwise the place after it.
 fn name_fault(keys: &[u64], id: u64, number: u8, at: usize, next: usize) -> NextRead
     ensures { λ r. ⌜ nextParsed r ≡ judgedAt (unless (present (now (keys .entry)) id number) 12 at) next ⌝ }

@@ -1,0 +1,161 @@
+-- The fault of a root.
+use Prim.Native.Nat.{ℕ, zero, suc, _≤_, _<_, _^_}
+use mathlib.Core.Bool.{Bool, true, false, not, _&&_, _||_}
+use mathlib.Core.Logic.{_⊎_, ⊎-elim}
+use mathlib.Core.List.{List, [], _∷_, map}
+use mathlib.Core.Path.{_≡_, refl, sym, _∙_, ap, subst}
+use native.Mathlib.Omega.{arith}
+use lib.Dec.{eqb, ltb}
+use lib.ListN.{length, getD, length-map, drop-of-length-le}
+use borrow.Author.Tests.{eq-eqb, ne-eqb, ltb-true, ltb-false}
+use Rattle.numbers.proofs.Bools.{either, clash, and-left, and-right, and-both}
+use Rattle.format.specs.Fields.{fieldAt, attentionAt}
+use Rattle.format.specs.FileLayout.{rootAt}
+use Rattle.format.specs.Lookup.{some, position, at, gathered, NodeEntry, nodeEntries, nodeNamed, nodePosition}
+use Rattle.format.specs.NodeLayout.{nodeInstanceAt}
+use Rattle.format.specs.Parsed.{Parsed, done, refused}
+use Rattle.format.specs.References.{Fault, unless, hasRule, rootFaults}
+use Rattle.format.specs.Rules.{Every, FieldsFit, NamesUnique}
+use Rattle.format.specs.Tree.{Root, NodeInstance, Chip}
+use Rattle.format.proofs.EveryLaws.{every-map}
+use Rattle.format.proofs.ParsedLaws.{then-out, making-out, requiring-out}
+use Rattle.format.proofs.PositionsLaws.{at-first, at-next, every-at, node-position}
+use Rattle.tables.specs.Faults.{judgedAt, positionIn}
+use Rattle.index.specs.Rows.{ReadAgain, entryPlace}
+use Rattle.index.proofs.Again.{same-done, not-refused}
+use Rattle.links.specs.Links.{rulePlace}
+use Rattle.links.proofs.LinksLaws.{instance-rule-some}
+use Rattle.references.specs.FaultsIn.{ruled, rootFaultsIn}
+use Rattle.references.proofs.KeysLaws.{some-out, some-in, position-at, column-at, gathered-same}
+use Rattle.references.proofs.TablesLaws.{same-bool, nodeKeys, node-position-in}
+
+-- What stands inside a list, and what does not.
+pub at-inside : {E : Type 0} (es : List E) (i : ℕ) → i < length es → (e : E) × (at i es ≡ e ∷ [])
+at-inside [] i h = absurd (omega arith)
+at-inside (e ∷ es) zero h = (e, at-first e es)
+at-inside (e ∷ es) (suc i) h = let r = at-inside es i (omega arith) in (r .0, at-next i e es ∙ r .1)
+
+pub at-outside : {E : Type 0} (es : List E) (i : ℕ) → length es ≤ i → at i es ≡ []
+unfolding at
+at-outside es i h = rw (drop-of-length-le es h)
+
+some-one : {E : Type 0} (q : E → Bool) (e : E) → some q (e ∷ []) ≡ q e
+unfolding some
+some-one q e = go (q e)
+  where
+    go : (t : Bool) → t || false ≡ t
+    go true = refl
+    go false = refl
+
+some-none : {E : Type 0} (q : E → Bool) → some q [] ≡ false
+unfolding some
+some-none q = refl
+
+module _ (nodes places : List ℕ) (attention id number : ℕ) {k : ℕ} (found : k ≡ positionIn nodes id number) (es : List NodeEntry) where
+  pub root-absent : (p next : ℕ) → places ≡ map entryPlace es → length places ≤ k → refused 12 p ≡ judgedAt (unless (ruled nodes es attention id number) 12 p) next
+  unfolding ruled unless judgedAt
+  root-absent p next c h =
+      let l : length es ≤ k = let z : length places ≡ length es = ap length c ∙ length-map es entryPlace in omega arith in
+      rw (← found, at-outside es k l, some-none (λ (e : NodeEntry). hasRule attention (e .instance)))
+
+  module _ (s : List ℕ) (again : Every (ReadAgain s) es) (c : places ≡ map entryPlace es) (h : k < length places) {r : ℕ}
+      (rule : (total : ℕ) (before : List NodeInstance) (i : NodeInstance) (m : ℕ) → nodeInstanceAt s true total before (getD places k 0) ≡ done i m → r ≡ rulePlace attention (i .rules)) where
+    root-rule : ruled nodes es attention id number ≡ not (eqb r 0)
+    unfolding ruled hasRule
+    root-rule =
+        let l : k < length es = let z : length places ≡ length es = ap length c ∙ length-map es entryPlace in omega arith in
+        let a = at-inside es k l in
+        let e = a .0 in
+        let g = every-at (ReadAgain s) k es again (a .1) in
+        let p : getD places k 0 ≡ entryPlace e = ap (λ z. getD z k 0) c ∙ column-at entryPlace es k (a .1) in
+        let n : nodeInstanceAt s true 0 [] (getD places k 0) ≡ done (e .instance) (g .next) = rw p (g .read) in
+        let w : r ≡ rulePlace attention (e .instance .rules) = rule 0 [] (e .instance) (g .next) n in
+        rw (← found, a .1) (some-one (λ e. hasRule attention (e .instance)) e ∙ sym (instance-rule-some s attention (entryPlace e) 0 [] (g .read)) ∙ rw (← w))
+
+    pub root-ruled : (p next : ℕ) → (r ≡ 0 → ⊥) → done tt next ≡ judgedAt (unless (ruled nodes es attention id number) 12 p) next
+    unfolding unless judgedAt
+    root-ruled p next z = rw (root-rule, ne-eqb r 0 z)
+
+    pub root-unruled : (p next : ℕ) → r ≡ 0 → refused 12 p ≡ judgedAt (unless (ruled nodes es attention id number) 12 p) next
+    unfolding unless judgedAt
+    root-unruled p next z = rw (root-rule, eq-eqb r 0 z)
+
+module _ (s : List ℕ) (p : ℕ) where
+  pub root-fields : (before : List Root) {t : Root} {m : ℕ} → rootAt s true before p ≡ done t m
+      → (a b : ℕ) × (fieldAt s p 1 ≡ done (t .attention) a) × (fieldAt s a 2 ≡ done (t .id) b) × (fieldAt s b 1 ≡ done (t .number) m) × (p ≡ t .place)
+  unfolding rootAt attentionAt
+  root-fields before {t} {m} e =
+      let d = then-out _ _ e in
+      let q = requiring-out _ _ _ _ (d .2) in
+      let o = requiring-out _ _ _ _ (q .0) in
+      let c = then-out _ _ (d .3) in
+      let g = making-out _ _ (c .3) in
+      let x : d .0 ≡ t .attention = ap (λ x. x .attention) (g .2) in
+      let i : c .0 ≡ t .id = ap (λ x. x .id) (g .2) in
+      let n : g .0 ≡ t .number = ap (λ x. x .number) (g .2) in
+      (d .1, c .1, o .0 ∙ rw x, c .2 ∙ rw i, g .1 ∙ rw n, ap (λ x. x .place) (g .2))
+
+  module _ {x a : ℕ} (o : done x a ≡ fieldAt s p 1) where
+    module _ {id b : ℕ} (d : done id b ≡ fieldAt s a 2) where
+      pub root-judged : (nodes : List ℕ) (es : List NodeEntry) {number next : ℕ} {y : Parsed (Unit {0})}
+          → done number next ≡ fieldAt s b 1 → y ≡ judgedAt (unless (ruled nodes es x id number) 12 p) next
+          → (before : List Root) (t : Root) (m : ℕ) → rootAt s true before p ≡ done t m → y ≡ judgedAt (rootFaultsIn nodes es t) m
+      unfolding rootFaultsIn
+      root-judged nodes es {number} {next} q h before t m e =
+          let f = root-fields before e in
+          let g = same-done o (f .2) in
+          let u : done id b ≡ fieldAt s (f .0) 2 = d ∙ rw (g .1) in
+          let i = same-done u (f .3) in
+          let w : done number next ≡ fieldAt s (f .1) 1 = q ∙ rw (i .1) in
+          let n = same-done w (f .4) in
+          h ∙ rw (g .0, i .0, n .0, n .1, f .5)
+
+      pub root-there : {B : Type 0} {w z : ℕ} → refused w z ≡ fieldAt s b 1
+          → (before : List Root) (t : Root) (m : ℕ) → rootAt s true before p ≡ done t m → B
+      root-there {B} {w} {z} q before t m e =
+          let f = root-fields before e in
+          let g = same-done o (f .2) in
+          let u : done id b ≡ fieldAt s (f .0) 2 = d ∙ rw (g .1) in
+          let i = same-done u (f .3) in
+          let v : refused w z ≡ fieldAt s (f .1) 1 = q ∙ rw (i .1) in
+          not-refused v (f .4)
+
+    pub root-named : {B : Type 0} {w z : ℕ} → refused w z ≡ fieldAt s a 2
+        → (before : List Root) (t : Root) (m : ℕ) → rootAt s true before p ≡ done t m → B
+    root-named {B} {w} {z} d before t m e =
+        let f = root-fields before e in
+        let g = same-done o (f .2) in
+        let v : refused w z ≡ fieldAt s (f .0) 2 = d ∙ rw (g .1) in
+        not-refused v (f .3)
+
+  pub root-typed : {B : Type 0} {w z : ℕ} → refused w z ≡ fieldAt s p 1
+      → (before : List Root) (t : Root) (m : ℕ) → rootAt s true before p ≡ done t m → B
+  root-typed o before t m e = not-refused o (root-fields before e .2)
+
+-- The roots have the same faults by the tables.
+module _ (c : Chip) (fit : FieldsFit c) (unique : NamesUnique c) where
+  ruled-same : (attention id number : ℕ) → id < 256 ^ 3 → number < 256
+      → ruled (nodeKeys c) (nodeEntries c) attention id number ≡ some (λ e. nodeNamed id number e && hasRule attention (e .instance)) (nodeEntries c)
+  unfolding ruled nodePosition
+  ruled-same attention id number hi hn =
+      rw (node-position-in c fit id number hi hn)
+      (same-bool _ _
+      (λ q. ⊎-elim
+      (λ h.
+      let d = position-at (nodeNamed id number) (nodeEntries c) (ltb-true _ _ h) in
+      let w : hasRule attention (d .0 .instance) ≡ true = sym (some-one (λ (e : NodeEntry). hasRule attention (e .instance)) (d .0)) ∙ ap (some (λ (e : NodeEntry). hasRule attention (e .instance))) (sym (d .1)) ∙ q in
+      some-in _ (nodeEntries c) _ (d .1) (and-both (d .2) w))
+      (λ h.
+      let z = at-outside (nodeEntries c) _ (ltb-false _ _ h) in
+      clash q (ap (some (λ (e : NodeEntry). hasRule attention (e .instance))) z ∙ some-none (λ (e : NodeEntry). hasRule attention (e .instance))))
+      (either (ltb (position (nodeNamed id number) (nodeEntries c)) (length (nodeEntries c)))))
+      (λ q.
+      let o = some-out (λ e. nodeNamed id number e && hasRule attention (e .instance)) (nodeEntries c) q in
+      let p : position (nodeNamed id number) (nodeEntries c) ≡ o .0 = node-position c unique (o .0) id number (o .2) (and-left _ _ (o .3)) in
+      rw (p, o .2) (some-one (λ e. hasRule attention (e .instance)) (o .1) ∙ and-right (nodeNamed id number (o .1)) _ (o .3))))
+
+  pub roots-same : gathered (rootFaultsIn (nodeKeys c) (nodeEntries c)) (c .roots) ≡ gathered (rootFaults c) (c .roots)
+  unfolding rootFaultsIn rootFaults
+  roots-same =
+      gathered-same _ _ (c .roots)
+      (every-map _ _ (λ (t : Root) h. rw (ruled-same (t .attention) (t .id) (t .number) (omega (arith, h .0)) (h .1))) (c .roots) (fit .roots))
