@@ -1,2 +1,3 @@
 -- The tables of a file.
 pub mod Rows
+pub mod Columns

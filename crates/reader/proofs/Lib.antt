@@ -1,3 +1,4 @@
 -- The laws of the roots section and of a whole file.
 pub mod RootLaws
 pub mod LayoutLaws
+pub mod WholeLaws

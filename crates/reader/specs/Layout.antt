@@ -3,7 +3,9 @@ use Prim.Native.Nat.{ℕ}
 use mathlib.Core.Bool.{true}
 use mathlib.Core.List.{List}
 use lib.ListN.{length}
-use Rattle.format.specs.Parsed.{Parsed, done, refused, andThen, making}
+use lib.Dec.{leb}
+use Rattle.format.specs.Limits.{fileLimit}
+use Rattle.format.specs.Parsed.{Parsed, done, refused, andThen, making, require}
 use Rattle.format.specs.RegisterLayout.{registerTotal, registersAt}
 use Rattle.format.specs.NodeLayout.{nodeTotal, nodesAt}
 use Rattle.format.specs.FileLayout.{startAt, rootsAt}
@@ -47,3 +49,8 @@ layoutValues l = acceptedWith (l .model) (l .registers) (l .registerInstances) (
 
 abbrev pub chipValues : Chip → CheckValues
 chipValues c = acceptedWith (c .model) (length (c .registers)) (length (registerEntries c)) (length (c .nodes)) (length (nodeEntries c)) (length (c .roots))
+
+-- The layout of a whole file: 1 where it is too long, and 11 where bytes follow the last root.
+unfoldable pub wholeAt : List ℕ → Parsed Summary
+wholeAt s =
+    require (leb (length s) fileLimit) 1 0 λ _. andThen (layoutAt s 0) λ l end. require (leb (length s) end) 11 end λ _. done l end

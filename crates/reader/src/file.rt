@@ -6,10 +6,12 @@ use crate::roots::start_at;
 use fields::ByteRead;
 use fields::NumberRead;
 use fields::SectionRead;
+use format::Kind;
+use format::Refusal;
 use nodes::nodes_at;
 use registers::registers_at;
 ghost use mathlib.Core.Path.{_≡_};
-ghost use Rattle.reader.specs.Layout.{layoutParsed, layoutAt};
+ghost use Rattle.reader.specs.Layout.{layoutParsed, layoutAt, wholeAt};
 
 // The layout of a file that starts at the slice's first byte. It reads each byte of the file at most once; number 7 costs a look at the IDs before each register and node.
 pub fn layout(s: &[u8]) -> LayoutRead
@@ -48,5 +50,31 @@ pub fn layout(s: &[u8]) -> LayoutRead
             }
         }
         NumberRead::Refused(r) => LayoutRead::Refused(r),
+    }
+}
+
+// The layout of a whole file that is not too long and ends with its last root.
+pub fn whole(s: &[u8]) -> LayoutRead
+    ensures { λ r. ⌜ layoutParsed r ≡ wholeAt (now (s .entry)) ⌝ }
+{
+    if format::FILE_LIMIT < s.len() {
+        return LayoutRead::Refused(Refusal {
+            kind: Kind::FileTooLong,
+            place: 0,
+        });
+    }
+    let read = layout(s);
+    match read {
+        LayoutRead::Done(l) => {
+            let end = l.end;
+            if end < s.len() {
+                return LayoutRead::Refused(Refusal {
+                    kind: Kind::BytesAfterEnd,
+                    place: end,
+                });
+            }
+            LayoutRead::Done(l)
+        }
+        LayoutRead::Refused(r) => LayoutRead::Refused(r),
     }
 }

@@ -22,12 +22,13 @@ use Rattle.format.proofs.ParsedLaws.{then-out, making-out, requiring-out}
 use Rattle.format.proofs.PositionsLaws.{at-first, at-next, every-at, node-position}
 use Rattle.tables.specs.Faults.{judgedAt, positionIn}
 use Rattle.index.specs.Rows.{ReadAgain, entryPlace}
+use Rattle.index.specs.Columns.{nodeKeys}
 use Rattle.index.proofs.Again.{same-done, not-refused}
 use Rattle.links.specs.Links.{rulePlace}
 use Rattle.links.proofs.LinksLaws.{instance-rule-some}
 use Rattle.references.specs.FaultsIn.{ruled, rootFaultsIn}
 use Rattle.references.proofs.KeysLaws.{some-out, some-in, position-at, column-at, gathered-same}
-use Rattle.references.proofs.TablesLaws.{same-bool, nodeKeys, node-position-in}
+use Rattle.references.proofs.TablesLaws.{same-bool, node-position-in}
 
 -- What stands inside a list, and what does not.
 pub at-inside : {E : Type 0} (es : List E) (i : ℕ) → i < length es → (e : E) × (at i es ≡ e ∷ [])

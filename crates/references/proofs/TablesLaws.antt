@@ -19,6 +19,7 @@ use Rattle.format.proofs.PositionsLaws.{register-position, every-at}
 use Rattle.tables.specs.Tables.{keyOf}
 use Rattle.tables.specs.Faults.{positionIn, present, nameFaults}
 use Rattle.index.specs.Rows.{kindOf, wantedKind}
+use Rattle.index.specs.Columns.{registerKeys, registerKinds, nodeKeys}
 use Rattle.references.specs.FaultsIn.{captureFaultsIn, ruleFaultsIn, childFaultsIn, instanceFaultsIn}
 use Rattle.references.proofs.KeysLaws.{kind-same, position-keys, some-position, some-out, some-in, position-at, column-at, every-all, gathered-same, Fitting, names-fit}
 
@@ -26,16 +27,6 @@ pub same-bool : (a b : Bool) → (a ≡ true → b ≡ true) → (b ≡ true →
 same-bool true b f g = sym (f refl)
 same-bool false true f g = clash (g refl) refl
 same-bool false false f g = refl
-
--- The columns of a chip's tables.
-abbrev pub registerKeys : Chip → List ℕ
-registerKeys c = map (λ e. keyOf (e .id) (e .instance .number)) (registerEntries c)
-
-abbrev pub registerKinds : Chip → List ℕ
-registerKinds c = map (λ e. kindOf (e .type) (e .flags)) (registerEntries c)
-
-abbrev pub nodeKeys : Chip → List ℕ
-nodeKeys c = map (λ e. keyOf (e .id) (e .instance .number)) (nodeEntries c)
 
 module _ (c : Chip) (fit : FieldsFit c) where
   registers-fit : Every (λ e. (e .id < 256 ^ 3) × (e .flags < 256)) (registerEntries c)

@@ -1,0 +1,37 @@
+-- The columns of a chip's tables, in file order.
+use Prim.Native.Nat.{ℕ}
+use mathlib.Core.List.{List, map}
+use mathlib.Core.Path.{_≡_}
+use Rattle.format.specs.Lookup.{registerEntries, nodeEntries}
+use Rattle.format.specs.Tree.{Chip}
+use Rattle.tables.specs.Tables.{keyOf}
+use Rattle.index.specs.Rows.{kindOf, entryPlace, entryWanted}
+
+-- The names and the kinds of the register instances.
+abbrev pub registerKeys : Chip → List ℕ
+registerKeys c = map (λ e. keyOf (e .id) (e .instance .number)) (registerEntries c)
+
+abbrev pub registerKinds : Chip → List ℕ
+registerKinds c = map (λ e. kindOf (e .type) (e .flags)) (registerEntries c)
+
+-- The places of the register instances' addresses.
+abbrev pub registerPlaces : Chip → List ℕ
+registerPlaces c = map (λ e. e .instance .place) (registerEntries c)
+
+-- The names of the node instances, the kinds that their rules may name, and their places.
+abbrev pub nodeKeys : Chip → List ℕ
+nodeKeys c = map (λ e. keyOf (e .id) (e .instance .number)) (nodeEntries c)
+
+abbrev pub nodeWanted : Chip → List ℕ
+nodeWanted c = map entryWanted (nodeEntries c)
+
+abbrev pub nodePlaces : Chip → List ℕ
+nodePlaces c = map entryPlace (nodeEntries c)
+
+-- The tables are those of the chip.
+pub record TablesOf (c : Chip) (keys kinds nodes wanted places : List ℕ) : Type 0 where
+  pub keys-are : keys ≡ registerKeys c
+  pub kinds-are : kinds ≡ registerKinds c
+  pub nodes-are : nodes ≡ nodeKeys c
+  pub wanted-are : wanted ≡ nodeWanted c
+  pub places-are : places ≡ nodePlaces c
