@@ -1,4 +1,5 @@
 -- The laws of isolation, and the samples.
 pub mod RowsLaws
 pub mod WriteLaws
+pub mod GraphsLaws
 mod SamplesHold
