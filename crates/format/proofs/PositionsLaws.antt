@@ -7,7 +7,7 @@ use mathlib.Core.Path.{_≡_, refl, sym, _∙_, ap, subst}
 use native.Mathlib.Omega.{arith}
 use lib.Dec.{eqb}
 use lib.ListN.{length}
-use borrow.Author.Tests.{eqb-true}
+use borrow.Author.Tests.{eqb-true, eq-eqb}
 use Rattle.numbers.proofs.Bools.{clash, and-left, and-right, or-left, or-right, or-cases}
 use Rattle.format.specs.Fields.{member}
 use Rattle.format.specs.Lookup.{some, position, at, gathered, RegisterEntry, entriesOf, registerEntries, registerNamed, NodeEntry, nodeEntriesOf, nodeEntries, nodeNamed, registerPosition, nodePosition}
@@ -67,6 +67,32 @@ some-at test zero (y ∷ xs) {x} q t =
     let w : x ≡ y = let z : y ∷ [] ≡ x ∷ [] = sym (at-first y xs) ∙ q in cc in
     or-left _ (subst (λ z. test z ≡ true) w t)
 some-at test (suc i) (y ∷ xs) q t = or-right (test y) (some-at test i xs (sym (at-next i y xs) ∙ q) t)
+
+-- What passes no test is not found.
+pub position-none : {A : Type 0} (test : A → Bool) (xs : List A) → some test xs ≡ false → position test xs ≡ length xs
+unfolding some position
+position-none test [] e = refl
+position-none test (x ∷ xs) e =
+    rw (or-false-left (test x) (some test xs) e) (ap suc (position-none test xs (or-false-right (test x) (some test xs) e)))
+
+-- Elements with distinct keys: what has a key is found by it.
+
+key-others : {A : Type 0} (key : A → ℕ) (v : ℕ) (xs : List A) → member v (map key xs) ≡ false → Every (λ x. eqb v (key x) ≡ false) xs
+unfolding member Every
+key-others key v [] e = tt
+key-others key v (x ∷ xs) e = (or-false-left _ _ e, key-others key v xs (or-false-right (eqb v (key x)) _ e))
+
+pub key-position : {A : Type 0} (key : A → ℕ) (xs : List A) → Distinct (map key xs) → (i : ℕ) {x : A} {v : ℕ} → at i xs ≡ x ∷ [] → key x ≡ v
+    → position (λ y. eqb (key y) v) xs ≡ i
+unfolding Distinct position
+key-position key [] d i q e = at-nothing i q
+key-position key (y ∷ xs) d zero {x} {v} q e =
+    let w : y ≡ x = let z : y ∷ [] ≡ x ∷ [] = sym (at-first y xs) ∙ q in cc in
+    rw (eq-eqb (key y) v (ap key w ∙ e))
+key-position key (y ∷ xs) d (suc i) {x} {v} q e =
+    let p = sym (at-next i y xs) ∙ q in
+    let o : eqb (key y) v ≡ false = subst (λ u. eqb (key y) u ≡ false) e (every-at _ i xs (key-others key (key y) xs (d .0)) p) in
+    rw o (ap suc (key-position key xs (d .1) i p e))
 
 -- Elements with an ID and inner elements with a number, as registers with instances and nodes with instances are.
 module _ {O I E : Type 0} (oid : O → ℕ) (inner : O → List I) (num : I → ℕ) (entry : O → I → E) (eid enum : E → ℕ)

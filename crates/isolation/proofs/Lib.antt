@@ -2,4 +2,6 @@
 pub mod RowsLaws
 pub mod WriteLaws
 pub mod GraphsLaws
+pub mod ChipLaws
+pub mod OutcomeLaws
 mod SamplesHold

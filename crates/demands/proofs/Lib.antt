@@ -1,0 +1,5 @@
+-- The demands hold.
+pub mod RowsLaws
+pub mod ListingLaws
+pub mod ReachedLaws
+pub mod Demand3

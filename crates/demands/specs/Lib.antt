@@ -1,0 +1,3 @@
+-- The demands in their own words.
+pub mod Rows
+pub mod Demand3
