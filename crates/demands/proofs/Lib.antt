@@ -3,3 +3,4 @@ pub mod RowsLaws
 pub mod ListingLaws
 pub mod ReachedLaws
 pub mod Demand3
+pub mod Readings

@@ -1,3 +1,4 @@
 -- The demands in their own words.
 pub mod Rows
 pub mod Demand3
+pub mod Readings
