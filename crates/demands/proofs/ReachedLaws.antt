@@ -38,7 +38,7 @@ rule-cases attention i =
     (either (some (λ r. eqb (r .attention) attention) (i .rules)))
 
 -- A rule for the wanted type is the wanted rule: rule types are unique.
-rule-wanted : (c : Chip) → NamesUnique c → (attention k : ℕ) {e : NodeEntry} {r : Rule} → at k (nodeEntries c) ≡ e ∷ [] → In r (e .instance .rules)
+pub rule-wanted : (c : Chip) → NamesUnique c → (attention k : ℕ) {e : NodeEntry} {r : Rule} → at k (nodeEntries c) ≡ e ∷ [] → In r (e .instance .rules)
     → r .attention ≡ attention → ruleFor attention (e .instance) ≡ r ∷ []
 unfolding ruleFor
 rule-wanted c u attention k {e} q i w =
@@ -50,7 +50,7 @@ module _ (c : Chip) (read : List ℕ) where
   unfolding ruleUnread unreadFaults hasValue readByte
   rule-valued r e n i = eqb-true _ 1 (unless-none _ _ _ (every-in _ (namedBy (r .expression)) (gathered-none _ _ e) i))
 
-  valued-rule : (r : Rule) → ((n : Named) → In n (namedBy (r .expression)) → readByte c read n ≡ 1) → ruleUnread c read r ≡ []
+  pub valued-rule : (r : Rule) → ((n : Named) → In n (namedBy (r .expression)) → readByte c read n ≡ 1) → ruleUnread c read r ≡ []
   unfolding ruleUnread unreadFaults hasValue readByte
   valued-rule r h = none-gathered _ _ (in-every _ (namedBy (r .expression)) (λ n i. none-unless _ _ _ (eq-eqb _ 1 (h n i))))
 

@@ -1,6 +1,6 @@
 -- What a reading may change: nothing, where it is of no register that a reached rule names.
 use Prim.Native.Nat.{ℕ}
-use mathlib.Core.Bool.{Bool, true, false, cond, _&&_, _||_}
+use mathlib.Core.Bool.{Bool, true, false, cond, _&&_}
 use mathlib.Core.List.{List, [], _∷_}
 use mathlib.Core.Logic.{⊎-elim}
 use mathlib.Core.Path.{_≡_, refl, sym, _∙_, ap}
@@ -8,16 +8,17 @@ use Rattle.numbers.specs.Bits.{bitOf}
 use Rattle.numbers.proofs.BigEndianLaws.{Bytes}
 use Rattle.graph.specs.Chains.{Graph, Sound, below, reachedFrom, reachedCount}
 use Rattle.graph.proofs.ChainsLaws.{reached-by-chains}
-use Rattle.format.specs.Lookup.{some, at, gathered, NodeEntry, nodeEntries, nodePosition}
+use Rattle.format.specs.Lookup.{at, gathered, NodeEntry, nodeEntries, nodePosition}
 use Rattle.format.specs.Meaning.{valueOf}
 use Rattle.format.specs.Parsed.{Parsed, done, refused}
 use Rattle.format.specs.References.{Fault, Named, namedBy}
 use Rattle.format.specs.Rules.{Meets}
 use Rattle.format.specs.Tree.{Rule, Root, Chip}
 use Rattle.format.specs.Verdict.{verdict}
+use Rattle.format.proofs.FaultsLaws.{some-none}
 use Rattle.format.proofs.GatheredLaws.{gathered-one, gathered-same}
 use Rattle.format.proofs.MeaningLaws.{value-same}
-use Rattle.format.proofs.PositionsLaws.{at-inside}
+use Rattle.format.proofs.PositionsLaws.{at-inside, some-one}
 use Rattle.isolation.specs.ChipGraph.{rootFor, ruleUnread, isNone, ruleActive, entryActive, chipGraph}
 use Rattle.isolation.specs.Outcome.{entryUnread, reachedUnread, written, allRead, fromRoot, isolateIn, isolate}
 use Rattle.isolation.specs.Readings.{hasValue, wordFor, unreadFaults}
@@ -91,10 +92,13 @@ module _ (c : Chip) (m : Meets c) (attention : ℕ) (words read words′ read′
 
   entry-active : (i : ℕ) → reachedFrom g root i ≡ true → (e : NodeEntry) → at i (nodeEntries c) ≡ e ∷ [] → (b : ℕ)
       → entryActive c attention words read b e ≡ entryActive c attention words′ read′ b e
-  unfolding entryActive some
+  unfolding entryActive
   entry-active i t e q b =
-      ⊎-elim (λ z. rw z)
-      (λ z. rw (z .1) (ap (λ s. s || false) (active-same c words read words′ read′ (z .0) (names-agree i t e q (z .0) (z .2) (z .3)) b)))
+      ⊎-elim (λ z. some-none (ruleActive c words read b) z ∙ sym (some-none (ruleActive c words′ read′ b) z))
+      (λ z. rw (z .1)
+      (some-one (ruleActive c words read b) (z .0)
+      ∙ active-same c words read words′ read′ (z .0) (names-agree i t e q (z .0) (z .2) (z .3)) b
+      ∙ sym (some-one (ruleActive c words′ read′ b) (z .0))))
       (rule-cases attention (e .instance))
 
   entry-unread : (i : ℕ) → reachedFrom g root i ≡ true → (e : NodeEntry) → at i (nodeEntries c) ≡ e ∷ []
@@ -107,11 +111,14 @@ module _ (c : Chip) (m : Meets c) (attention : ℕ) (words read words′ read′
       (rule-cases attention (e .instance))
 
   graphs-agree : Agree g h (λ i. reachedFrom g root i ≡ true)
-  unfolding chipGraph some
+  unfolding chipGraph
   graphs-agree =
       record {
         size = refl;
-        active = λ i b t l. let x = entry-at i t in rw (x .1) (ap (λ s. s || false) (entry-active i t (x .0) (x .1) b));
+        active = λ i b t l. let x = entry-at i t in rw (x .1)
+            (some-one (entryActive c attention words read b) (x .0)
+            ∙ entry-active i t (x .0) (x .1) b
+            ∙ sym (some-one (entryActive c attention words′ read′ b) (x .0)));
         child = λ i b t l. refl;
       }
 

@@ -1,4 +1,5 @@
 -- The demands in their own words.
 pub mod Rows
 pub mod Demand3
+pub mod Active
 pub mod Readings

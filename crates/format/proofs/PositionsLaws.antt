@@ -1,6 +1,6 @@
 -- In an accepted file a name means one position: register instances and node instances are unique.
 use Prim.Native.Nat.{ℕ, zero, suc, _+_, _<_}
-use mathlib.Core.Bool.{Bool, true, false, cond, _&&_}
+use mathlib.Core.Bool.{Bool, true, false, cond, _&&_, _||_}
 use mathlib.Core.List.{List, [], _∷_, _++_, map}
 use mathlib.Core.Logic.{⊎-elim}
 use mathlib.Core.Path.{_≡_, refl, sym, _∙_, ap, subst}
@@ -67,6 +67,14 @@ some-at test zero (y ∷ xs) {x} q t =
     let w : x ≡ y = let z : y ∷ [] ≡ x ∷ [] = sym (at-first y xs) ∙ q in cc in
     or-left _ (subst (λ z. test z ≡ true) w t)
 some-at test (suc i) (y ∷ xs) q t = or-right (test y) (some-at test i xs (sym (at-next i y xs) ∙ q) t)
+
+pub some-one : {A : Type 0} (test : A → Bool) (x : A) → some test (x ∷ []) ≡ test x
+unfolding some
+some-one test x = go (test x)
+  where
+    go : (t : Bool) → t || false ≡ t
+    go true = refl
+    go false = refl
 
 -- What passes no test is not found.
 pub position-none : {A : Type 0} (test : A → Bool) (xs : List A) → some test xs ≡ false → position test xs ≡ length xs
