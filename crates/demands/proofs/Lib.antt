@@ -2,6 +2,7 @@
 pub mod RowsLaws
 pub mod ListingLaws
 pub mod ReachedLaws
-pub mod Demand3
 pub mod ActiveLaws
+pub mod Demand1
+pub mod Demand3
 pub mod Readings

@@ -1,13 +1,17 @@
 -- What a reading may change: nothing, where it is of no register that a reached rule names.
-use Prim.Native.Nat.{ℕ}
+use Prim.Native.Nat.{ℕ, _*_, _/_}
 use mathlib.Core.Bool.{Bool, true, false, cond, _&&_}
-use mathlib.Core.List.{List, [], _∷_}
+use mathlib.Core.List.{List, [], _∷_, _++_}
 use mathlib.Core.Logic.{⊎-elim}
-use mathlib.Core.Path.{_≡_, refl, sym, _∙_, ap}
+use mathlib.Core.Path.{_≡_, refl, sym, _∙_, ap, subst}
+use lib.Dec.{leb}
+use lib.ListN.{length, drop}
+use lib.Seq.{take-at}
 use Rattle.numbers.specs.Bits.{bitOf}
 use Rattle.numbers.proofs.BigEndianLaws.{Bytes}
-use Rattle.graph.specs.Chains.{Graph, Sound, below, reachedFrom, reachedCount}
+use Rattle.graph.specs.Chains.{Graph, Sound, Link, below, reachedFrom, reachedCount}
 use Rattle.graph.proofs.ChainsLaws.{reached-by-chains}
+use Rattle.format.specs.Fields.{knownAttention}
 use Rattle.format.specs.Lookup.{at, gathered, NodeEntry, nodeEntries, nodePosition}
 use Rattle.format.specs.Meaning.{valueOf}
 use Rattle.format.specs.Parsed.{Parsed, done, refused}
@@ -20,14 +24,14 @@ use Rattle.format.proofs.GatheredLaws.{gathered-one, gathered-same}
 use Rattle.format.proofs.MeaningLaws.{value-same}
 use Rattle.format.proofs.PositionsLaws.{at-inside, some-one}
 use Rattle.isolation.specs.ChipGraph.{rootFor, ruleUnread, isNone, ruleActive, entryActive, chipGraph}
-use Rattle.isolation.specs.Outcome.{entryUnread, reachedUnread, written, allRead, fromRoot, isolateIn, isolate}
-use Rattle.isolation.specs.Readings.{hasValue, wordFor, unreadFaults}
-use Rattle.isolation.specs.Records.{listing}
+use Rattle.isolation.specs.Outcome.{Outcome, refusedOutcome, doneOutcome, entryUnread, reachedUnread, written, allRead, fromRoot, isolateIn, isolate}
+use Rattle.isolation.specs.Readings.{readingsFit, hasValue, wordFor, unreadFaults}
+use Rattle.isolation.specs.Records.{recordSize, listing, recordsOf}
 use Rattle.isolation.proofs.ChipLaws.{chip-sound}
-use Rattle.isolation.proofs.GraphsLaws.{Agree, every-below, reached-below, reached-same, count-reached-same, listing-same}
+use Rattle.isolation.proofs.GraphsLaws.{Agree, every-below, reached-below, reached-same, count-reached-same, listing-same, listing-length}
 use Rattle.demands.specs.Rows.{In}
-use Rattle.demands.specs.Demand3.{RootAt, readByte}
-use Rattle.demands.specs.Readings.{AgreeOn, Alike, ReadingsSettle}
+use Rattle.demands.specs.Demand3.{Accepted, RootAt, readByte}
+use Rattle.demands.specs.Readings.{AgreeOn, Alike, SameAnswer, ReadingsSettle}
 use Rattle.demands.proofs.RowsLaws.{in-every}
 use Rattle.demands.proofs.ReachedLaws.{rule-cases, rule-valued, entry-one, entry-none}
 use Rattle.demands.proofs.Demand3.{accepted-out, root-out, root-below, fit-in}
@@ -147,9 +151,13 @@ module _ (c : Chip) (m : Meets c) (attention : ℕ) (words read words′ read′
       ≡ allRead (reachedUnread c attention read′ h root) list (written c attention h root list)
   outcome-same list = rw (reached-unread, written-same list)
 
-pub readings-settle : (file : List ℕ) → Bytes file → (attention : ℕ) (words read words′ read′ : List ℕ) → ReadingsSettle file attention words read words′ read′
-unfolding ReadingsSettle isolate isolateIn fromRoot
-readings-settle file bytes attention words read words′ read′ same list = go (verdict file) refl
+-- The whole answer
+
+answers-same : (file : List ℕ) → Bytes file → (attention : ℕ) (words read words′ read′ : List ℕ)
+    → ((c : Chip) → Accepted file c → Alike c attention words read words′ read′)
+    → (list : List ℕ) → isolate file attention words read list ≡ isolate file attention words′ read′ list
+unfolding isolate isolateIn fromRoot
+answers-same file bytes attention words read words′ read′ same list = go (verdict file) refl
   where
     rooted : (c : Chip) → Meets c → Alike c attention words read words′ read′ → (ts : List Root) → rootFor attention c ≡ ts
         → fromRoot c attention words read list ts ≡ fromRoot c attention words′ read′ list ts
@@ -162,3 +170,82 @@ readings-settle file bytes attention words read words′ read′ same list = go 
     go (refused n p) e = refl
     go (done c end) e =
         let a = accepted-out file bytes e in rw (rooted c (a .meets) (same c a) (rootFor attention c) refl)
+
+-- Two lists of one length
+
+module _ (list list′ : List ℕ) (size : length list ≡ length list′) where
+  refused-answer : (n p : ℕ) → SameAnswer (refusedOutcome n p list) (refusedOutcome n p list′)
+  refused-answer n p = record { number = refl; place = refl; records = refl; steps = refl; written = refl }
+
+  written-answer : (c : Chip) (attention : ℕ) (g : Graph) (root : ℕ) → g .size ≡ length (nodeEntries c)
+      → SameAnswer (written c attention g root list) (written c attention g root list′)
+  unfolding written recordSize
+  written-answer c attention g root e = rw (← size) (go (leb (length (listing g root)) (length list / 8)))
+    where
+      ls : List Link
+      ls = listing g root
+
+      rs : List ℕ
+      rs = recordsOf c attention ls
+
+      go : (t : Bool) → SameAnswer
+          (cond t (doneOutcome (length ls) (reachedCount g root) (rs ++ drop (length ls * 8) list)) (refusedOutcome 19 (length ls) list))
+          (cond t (doneOutcome (length ls) (reachedCount g root) (rs ++ drop (length ls * 8) list′)) (refusedOutcome 19 (length ls) list′))
+      go true =
+          record {
+            number = refl;
+            place = refl;
+            records = refl;
+            steps = refl;
+            written = take-at rs (drop (length ls * 8) list) (length ls * 8) (listing-length c attention g root e)
+                ∙ sym (take-at rs (drop (length ls * 8) list′) (length ls * 8) (listing-length c attention g root e));
+          }
+      go false = refused-answer 19 (length ls)
+
+  read-answer : (fs : List Fault) (o o′ : Outcome) → SameAnswer o o′ → SameAnswer (allRead fs list o) (allRead fs list′ o′)
+  unfolding allRead
+  read-answer [] o o′ s = s
+  read-answer (f ∷ fs) o o′ s = refused-answer (f .number) (f .place)
+
+  root-answer : (c : Chip) (attention : ℕ) (words read : List ℕ) (ts : List Root)
+      → SameAnswer (fromRoot c attention words read list ts) (fromRoot c attention words read list′ ts)
+  unfolding fromRoot chipGraph
+  root-answer c attention words read [] = refused-answer 16 0
+  root-answer c attention words read (t ∷ ts) = go (readingsFit c words read)
+    where
+      go : (b : Bool) → SameAnswer
+          (cond b
+          (allRead (reachedUnread c attention read (chipGraph c attention words read) (nodePosition c (t .id) (t .number))) list
+          (written c attention (chipGraph c attention words read) (nodePosition c (t .id) (t .number)) list))
+          (refusedOutcome 17 0 list))
+          (cond b
+          (allRead (reachedUnread c attention read (chipGraph c attention words read) (nodePosition c (t .id) (t .number))) list′
+          (written c attention (chipGraph c attention words read) (nodePosition c (t .id) (t .number)) list′))
+          (refusedOutcome 17 0 list′))
+      go true =
+          read-answer _ _ _ (written-answer c attention (chipGraph c attention words read) (nodePosition c (t .id) (t .number)) refl)
+      go false = refused-answer 17 0
+
+  room-answer : (file : List ℕ) (attention : ℕ) (words read : List ℕ)
+      → SameAnswer (isolate file attention words read list) (isolate file attention words read list′)
+  unfolding isolate isolateIn
+  room-answer file attention words read = go (verdict file)
+    where
+      known : (c : Chip) (b : Bool) → SameAnswer
+          (cond b (fromRoot c attention words read list (rootFor attention c)) (refusedOutcome 15 0 list))
+          (cond b (fromRoot c attention words read list′ (rootFor attention c)) (refusedOutcome 15 0 list′))
+      known c true = root-answer c attention words read (rootFor attention c)
+      known c false = refused-answer 15 0
+
+      go : (r : Parsed Chip) → SameAnswer (isolateIn attention words read list r) (isolateIn attention words read list′ r)
+      go (refused n p) = refused-answer n p
+      go (done c end) = known c (knownAttention attention)
+
+pub readings-settle : (file : List ℕ) → Bytes file → (attention : ℕ) (words read words′ read′ : List ℕ) → ReadingsSettle file attention words read words′ read′
+unfolding ReadingsSettle
+readings-settle file bytes attention words read words′ read′ alike =
+    let same = answers-same file bytes attention words read words′ read′ alike in
+    record {
+      same = same;
+      room = λ list list′ e. subst (λ o. SameAnswer (isolate file attention words read list) o) (same list′) (room-answer list list′ e file attention words read);
+    }

@@ -1,8 +1,9 @@
 -- When isolation succeeds: every refusal of the table is passed, and none has number 0.
-use Prim.Native.Nat.{ℕ, _*_, _/_}
+use Prim.Native.Nat.{ℕ, _*_, _/_, _≤_}
 use mathlib.Core.Bool.{Bool, true, false, cond}
 use mathlib.Core.List.{List, [], _∷_, _++_}
-use mathlib.Core.Path.{_≡_, refl}
+use mathlib.Core.Logic.{_⊎_, inl, inr, ⊎-elim}
+use mathlib.Core.Path.{_≡_, refl, _∙_, ap}
 use native.Mathlib.Omega.{arith}
 use lib.Dec.{leb}
 use lib.ListN.{length, drop}
@@ -48,27 +49,38 @@ reached-eighteen c attention read g root =
     go i true = every-gathered-in Eighteen _ _ (every-all _ (λ e. every-gathered-in Eighteen _ _ (every-all _ (rule-eighteen c read) _)) (at i (nodeEntries c)))
     go i false = none-eighteen
 
--- Success, step by step
+-- A refusal of isolation, or success
 
-written-out : (c : Chip) (attention : ℕ) (g : Graph) (root : ℕ) (list : List ℕ) → written c attention g root list .number ≡ 0
-    → leb (length (listing g root)) (length list / recordSize) ≡ true
+-- "Each refusal returns its number and place, zero records and zero steps, and the list keeps its bytes." The table's numbers are 1 to 19.
+pub record Refused (list : List ℕ) (o : Outcome) : Type 0 where
+  pub number : ℕ
+  pub place : ℕ
+  pub low : 1 ≤ number
+  pub high : number ≤ 19
+  pub is : o ≡ refusedOutcome number place list
+
+refusal : (n p : ℕ) (list : List ℕ) → 1 ≤ n → n ≤ 19 → Refused list (refusedOutcome n p list)
+refusal n p list l h = record { number = n; place = p; low = l; high = h; is = refl }
+
+written-cases : (c : Chip) (attention : ℕ) (g : Graph) (root : ℕ) (list : List ℕ)
+    → Refused list (written c attention g root list) ⊎ (leb (length (listing g root)) (length list / recordSize) ≡ true)
 unfolding written
-written-out c attention g root list = go (leb (length (listing g root)) (length list / recordSize))
+written-cases c attention g root list = go (leb (length (listing g root)) (length list / recordSize))
   where
-    go : (t : Bool) → cond t
+    go : (t : Bool)
+        → Refused list
+        (cond t
         (doneOutcome (length (listing g root)) (reachedCount g root)
         (recordsOf c attention (listing g root) ++ drop (length (listing g root) * recordSize) list))
-        (refusedOutcome 19 (length (listing g root)) list)
-        .number
-        ≡ 0
-        → t ≡ true
-    go true e = refl
-    go false e = absurd (omega arith)
+        (refusedOutcome 19 (length (listing g root)) list))
+        ⊎ (t ≡ true)
+    go true = inr refl
+    go false = inl (refusal 19 (length (listing g root)) list (omega arith) (omega arith))
 
-read-out : (fs : List Fault) (list : List ℕ) (o : Outcome) → Every Eighteen fs → allRead fs list o .number ≡ 0 → (fs ≡ []) × (o .number ≡ 0)
+read-cases : (fs : List Fault) (list : List ℕ) (o : Outcome) → Every Eighteen fs → Refused list (allRead fs list o) ⊎ ((fs ≡ []) × (allRead fs list o ≡ o))
 unfolding allRead Every
-read-out [] list o h e = (refl, e)
-read-out (f ∷ fs) list o h e = absurd (omega (arith, h .0))
+read-cases [] list o h = inr (refl, refl)
+read-cases (f ∷ fs) list o h = inl (refusal (f .number) (f .place) list (omega (arith, h .0)) (omega (arith, h .0)))
 
 module _ (file : List ℕ) (attention : ℕ) (words read list : List ℕ) where
   -- The file's tree, its root for the wanted type, and all that refusals 15 to 19 ask.
@@ -93,11 +105,11 @@ module _ (file : List ℕ) (attention : ℕ) (words read list : List ℕ) where
   unfolding isolate isolateIn fromRoot allRead written
   succeeds-in s = rw (s .accepted, s .known, s .rooted, s .fit, s .valued, s .room)
 
-  rooted-out : (c : Chip) (end : ℕ) → verdict file ≡ done c end → knownAttention attention ≡ true → (ts : List Root) → rootFor attention c ≡ ts
-      → fromRoot c attention words read list ts .number ≡ 0 → Succeeds
+  rooted-cases : (c : Chip) (end : ℕ) → verdict file ≡ done c end → knownAttention attention ≡ true → (ts : List Root) → rootFor attention c ≡ ts
+      → Refused list (fromRoot c attention words read list ts) ⊎ Succeeds
   unfolding fromRoot
-  rooted-out c end v k [] r e = absurd (omega arith)
-  rooted-out c end v k (t ∷ ts) r e = go (readingsFit c words read) refl e
+  rooted-cases c end v k [] r = inl (refusal 16 0 list (omega arith) (omega arith))
+  rooted-cases c end v k (t ∷ ts) r = go (readingsFit c words read) refl
     where
       g : Graph
       g = chipGraph c attention words read
@@ -106,33 +118,31 @@ module _ (file : List ℕ) (attention : ℕ) (words read list : List ℕ) where
       p = nodePosition c (t .id) (t .number)
 
       go : (b : Bool) → readingsFit c words read ≡ b
-          → cond b (allRead (reachedUnread c attention read g p) list (written c attention g p list)) (refusedOutcome 17 0 list) .number ≡ 0
-          → Succeeds
-      go true f d =
-          let a = read-out (reachedUnread c attention read g p) list (written c attention g p list) (reached-eighteen c attention read g p) d in
-          record {
-            chip = c;
-            end = end;
-            root = t;
-            roots = ts;
-            accepted = v;
-            known = k;
-            rooted = r;
-            fit = f;
-            valued = a .0;
-            room = written-out c attention g p list (a .1);
-          }
-      go false f d = absurd (omega arith)
+          → Refused list (cond b (allRead (reachedUnread c attention read g p) list (written c attention g p list)) (refusedOutcome 17 0 list)) ⊎ Succeeds
+      go true f =
+          ⊎-elim (λ z. inl z)
+          (λ a. ⊎-elim (λ z. inl (record { number = z .number; place = z .place; low = z .low; high = z .high; is = a .1 ∙ z .is }))
+          (λ w. inr
+          (record { chip = c; end = end; root = t; roots = ts; accepted = v; known = k; rooted = r; fit = f; valued = a .0; room = w }))
+          (written-cases c attention g p list))
+          (read-cases (reachedUnread c attention read g p) list (written c attention g p list) (reached-eighteen c attention read g p))
+      go false f = inl (refusal 17 0 list (omega arith) (omega arith))
+
+  -- Isolation refuses or succeeds.
+  pub outcome-cases : Refused list (isolate file attention words read list) ⊎ Succeeds
+  unfolding isolate isolateIn
+  outcome-cases = go (verdict file) refl
+    where
+      known-cases : (c : Chip) (end : ℕ) → verdict file ≡ done c end → (b : Bool) → knownAttention attention ≡ b
+          → Refused list (cond b (fromRoot c attention words read list (rootFor attention c)) (refusedOutcome 15 0 list)) ⊎ Succeeds
+      known-cases c end v true k = rooted-cases c end v k (rootFor attention c) refl
+      known-cases c end v false k = inl (refusal 15 0 list (omega arith) (omega arith))
+
+      go : (r : Parsed Chip) → verdict file ≡ r → Refused list (isolateIn attention words read list r) ⊎ Succeeds
+      go (done c end) v = known-cases c end v (knownAttention attention) refl
+      go (refused n p) v = let t = verdict-numbered file v in inl (refusal n p list (t .0) (omega (arith, t .1)))
 
   pub succeeds-out : isolate file attention words read list .number ≡ 0 → Succeeds
-  unfolding isolate isolateIn
-  succeeds-out = go (verdict file) refl
-    where
-      known-out : (c : Chip) (end : ℕ) → verdict file ≡ done c end → (b : Bool) → knownAttention attention ≡ b
-          → cond b (fromRoot c attention words read list (rootFor attention c)) (refusedOutcome 15 0 list) .number ≡ 0 → Succeeds
-      known-out c end v true k e = rooted-out c end v k (rootFor attention c) refl e
-      known-out c end v false k e = absurd (omega arith)
-
-      go : (r : Parsed Chip) → verdict file ≡ r → isolateIn attention words read list r .number ≡ 0 → Succeeds
-      go (done c end) v e = known-out c end v (knownAttention attention) refl e
-      go (refused n p) v e = absurd (omega (arith, verdict-numbered file v .0))
+  succeeds-out e =
+      ⊎-elim (λ r. let d : isolate file attention words read list .number ≡ r .number = ap (λ o. o .number) (r .is) in absurd (omega (arith, r .low)))
+      (λ s. s) outcome-cases
