@@ -23,6 +23,11 @@ module _ {A : Type 0} (P Q : A → Type 0) where
   every-both (x ∷ xs) h k = ((h .0, k .0), every-both xs (h .1) (k .1))
 
 module _ {A : Type 0} (P : A → Type 0) where
+  pub every-all : ((x : A) → P x) → (xs : List A) → Every P xs
+  unfolding Every
+  every-all f [] = tt
+  every-all f (x ∷ xs) = (f x, every-all f xs)
+
   pub every-append-out : (xs ys : List A) → Every P (xs ++ ys) → Every P xs × Every P ys
   unfolding Every
   every-append-out [] ys h = (tt, h)

@@ -28,22 +28,22 @@ pub none-append : {A : Type 0} {xs ys : List A} → xs ≡ [] → ys ≡ [] → 
 none-append p q = rw (p, q)
 
 module _ {A B : Type 0} (f : A → List B) where
-  gathered-none : (xs : List A) → gathered f xs ≡ [] → Every (λ x. f x ≡ []) xs
+  pub gathered-none : (xs : List A) → gathered f xs ≡ [] → Every (λ x. f x ≡ []) xs
   unfolding gathered Every
   gathered-none [] e = tt
   gathered-none (x ∷ xs) e = let r = append-none (f x) (gathered f xs) e in (r .0, gathered-none xs (r .1))
 
-  none-gathered : (xs : List A) → Every (λ x. f x ≡ []) xs → gathered f xs ≡ []
+  pub none-gathered : (xs : List A) → Every (λ x. f x ≡ []) xs → gathered f xs ≡ []
   unfolding gathered Every
   none-gathered [] h = refl
   none-gathered (x ∷ xs) h = none-append (h .0) (none-gathered xs (h .1))
 
-unless-none : (ok : Bool) (n p : ℕ) → unless ok n p ≡ [] → ok ≡ true
+pub unless-none : (ok : Bool) (n p : ℕ) → unless ok n p ≡ [] → ok ≡ true
 unfolding unless
 unless-none true n p e = refl
 unless-none false n p e = let z : _≡_ {A = ℕ} 0 1 = cc in absurd (omega arith)
 
-none-unless : (ok : Bool) (n p : ℕ) → ok ≡ true → unless ok n p ≡ []
+pub none-unless : (ok : Bool) (n p : ℕ) → ok ≡ true → unless ok n p ≡ []
 unfolding unless
 none-unless ok n p e = rw e
 
@@ -129,13 +129,16 @@ unfolding some
 some-never f h [] = refl
 some-never f h (x ∷ xs) = rw (h x) (some-never f h xs)
 
-some-none : {A : Type 0} (f : A → Bool) {xs : List A} → xs ≡ [] → some f xs ≡ false
+pub some-none : {A : Type 0} (f : A → Bool) {xs : List A} → xs ≡ [] → some f xs ≡ false
 unfolding some
 some-none f e = rw e
 
-at-none : {A : Type 0} (i : ℕ) (xs : List A) → length xs ≤ i → at i xs ≡ []
+pub at-none : {A : Type 0} (i : ℕ) (xs : List A) → length xs ≤ i → at i xs ≡ []
 unfolding at
 at-none i xs h = rw (drop-of-length-le xs h)
+
+pub below? : (i n : ℕ) → (i < n) ⊎ (n ≤ i)
+below? i n = ⊎-elim (λ h. inl (ltb-true i n h)) (λ h. inr (ltb-false i n h)) (either (ltb i n))
 
 -- Both ends of an edge are node instances of the file.
 pub edges-inside : (c : Chip) → Inside (length (nodeEntries c)) (childEdge c)
@@ -145,9 +148,6 @@ edges-inside c i j e =
       ⊎-elim (λ h. h) (λ h. clash e (some-none _ (at-none i (nodeEntries c) h))) (below? i n),
       ⊎-elim (λ h. h) (λ h. clash e (some-never _ (λ a. some-none (leads a) (at-none j (nodeEntries c) h)) _)) (below? j n),
     )
-  where
-    below? : (i n : ℕ) → (i < n) ⊎ (n ≤ i)
-    below? i n = ⊎-elim (λ h. inl (ltb-true i n h)) (λ h. inr (ltb-false i n h)) (either (ltb i n))
 
 module _ (c : Chip) where
   abbrev cyclic : ℕ → Bool

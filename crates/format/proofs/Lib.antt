@@ -16,4 +16,6 @@ pub mod Acceptance
 pub mod EncodingLaws
 pub mod PositionsLaws
 pub mod PlacesLaws
+pub mod NumberedLaws
+pub mod MeaningLaws
 mod SamplesHold

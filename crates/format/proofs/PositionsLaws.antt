@@ -1,14 +1,16 @@
 -- In an accepted file a name means one position: register instances and node instances are unique.
-use Prim.Native.Nat.{ℕ, zero, suc, _+_}
-use mathlib.Core.Bool.{Bool, true, false, _&&_}
+use Prim.Native.Nat.{ℕ, zero, suc, _+_, _<_}
+use mathlib.Core.Bool.{Bool, true, false, cond, _&&_, _||_}
 use mathlib.Core.List.{List, [], _∷_, _++_, map}
+use mathlib.Core.Logic.{⊎-elim}
 use mathlib.Core.Path.{_≡_, refl, sym, _∙_, ap, subst}
 use native.Mathlib.Omega.{arith}
 use lib.Dec.{eqb}
-use borrow.Author.Tests.{eqb-true}
-use Rattle.numbers.proofs.Bools.{and-left, and-right}
+use lib.ListN.{length}
+use borrow.Author.Tests.{eqb-true, eq-eqb}
+use Rattle.numbers.proofs.Bools.{clash, and-left, and-right, or-left, or-right, or-cases}
 use Rattle.format.specs.Fields.{member}
-use Rattle.format.specs.Lookup.{position, at, gathered, RegisterEntry, entriesOf, registerEntries, registerNamed, NodeEntry, nodeEntriesOf, nodeEntries, nodeNamed, registerPosition, nodePosition}
+use Rattle.format.specs.Lookup.{some, position, at, gathered, RegisterEntry, entriesOf, registerEntries, registerNamed, NodeEntry, nodeEntriesOf, nodeEntries, nodeNamed, registerPosition, nodePosition}
 use Rattle.format.specs.Rules.{Every, Distinct, NamesUnique}
 use Rattle.format.specs.Tree.{Chip}
 use Rattle.format.proofs.EveryLaws.{or-false-left, or-false-right, every-append-in, every-list-in, every-gathered-in}
@@ -33,6 +35,72 @@ unfolding Every
 every-at P i [] h q = at-nothing i q
 every-at P zero (x ∷ xs) {e} h q = let w : x ≡ e = let z : x ∷ [] ≡ e ∷ [] = sym (at-first x xs) ∙ q in cc in subst P w (h .0)
 every-at P (suc i) (x ∷ xs) h q = every-at P i xs (h .1) (sym (at-next i x xs) ∙ q)
+
+pub at-inside : {A : Type 0} (i : ℕ) (xs : List A) → i < length xs → (x : A) × (at i xs ≡ x ∷ [])
+at-inside i [] h = absurd (omega arith)
+at-inside zero (x ∷ xs) h = (x, at-first x xs)
+at-inside (suc i) (x ∷ xs) h = let r = at-inside i xs (omega arith) in (r .0, at-next i x xs ∙ r .1)
+
+pub inside-at : {A : Type 0} (i : ℕ) (xs : List A) {e : A} → at i xs ≡ e ∷ [] → i < length xs
+inside-at i [] q = at-nothing i q
+inside-at zero (x ∷ xs) q = omega arith
+inside-at (suc i) (x ∷ xs) q = let h : i < length xs = inside-at i xs (sym (at-next i x xs) ∙ q) in omega arith
+
+-- What passes a test is found at its position.
+pub position-at : {A : Type 0} (test : A → Bool) (xs : List A) → some test xs ≡ true
+    → (x : A) × (at (position test xs) xs ≡ x ∷ []) × (test x ≡ true)
+unfolding some position
+position-at test [] e = clash e refl
+position-at {A} test (x ∷ xs) e = go (test x) refl (position-at test xs)
+  where
+    go : (t : Bool) → test x ≡ t → (some test xs ≡ true → (y : A) × (at (position test xs) xs ≡ y ∷ []) × (test y ≡ true))
+        → (y : A) × (at (cond t 0 (suc (position test xs))) (x ∷ xs) ≡ y ∷ []) × (test y ≡ true)
+    go true d f = (x, at-first x xs, d)
+    go false d f =
+        let r = f (⊎-elim (λ h. clash h d) (λ h. h) (or-cases (test x) _ e)) in
+        (r .0, at-next (position test xs) x xs ∙ r .1, r .2)
+
+pub some-at : {A : Type 0} (test : A → Bool) (i : ℕ) (xs : List A) {x : A} → at i xs ≡ x ∷ [] → test x ≡ true → some test xs ≡ true
+unfolding some
+some-at test i [] q t = at-nothing i q
+some-at test zero (y ∷ xs) {x} q t =
+    let w : x ≡ y = let z : y ∷ [] ≡ x ∷ [] = sym (at-first y xs) ∙ q in cc in
+    or-left _ (subst (λ z. test z ≡ true) w t)
+some-at test (suc i) (y ∷ xs) q t = or-right (test y) (some-at test i xs (sym (at-next i y xs) ∙ q) t)
+
+pub some-one : {A : Type 0} (test : A → Bool) (x : A) → some test (x ∷ []) ≡ test x
+unfolding some
+some-one test x = go (test x)
+  where
+    go : (t : Bool) → t || false ≡ t
+    go true = refl
+    go false = refl
+
+-- What passes no test is not found.
+pub position-none : {A : Type 0} (test : A → Bool) (xs : List A) → some test xs ≡ false → position test xs ≡ length xs
+unfolding some position
+position-none test [] e = refl
+position-none test (x ∷ xs) e =
+    rw (or-false-left (test x) (some test xs) e) (ap suc (position-none test xs (or-false-right (test x) (some test xs) e)))
+
+-- Elements with distinct keys: what has a key is found by it.
+
+key-others : {A : Type 0} (key : A → ℕ) (v : ℕ) (xs : List A) → member v (map key xs) ≡ false → Every (λ x. eqb v (key x) ≡ false) xs
+unfolding member Every
+key-others key v [] e = tt
+key-others key v (x ∷ xs) e = (or-false-left _ _ e, key-others key v xs (or-false-right (eqb v (key x)) _ e))
+
+pub key-position : {A : Type 0} (key : A → ℕ) (xs : List A) → Distinct (map key xs) → (i : ℕ) {x : A} {v : ℕ} → at i xs ≡ x ∷ [] → key x ≡ v
+    → position (λ y. eqb (key y) v) xs ≡ i
+unfolding Distinct position
+key-position key [] d i q e = at-nothing i q
+key-position key (y ∷ xs) d zero {x} {v} q e =
+    let w : y ≡ x = let z : y ∷ [] ≡ x ∷ [] = sym (at-first y xs) ∙ q in cc in
+    rw (eq-eqb (key y) v (ap key w ∙ e))
+key-position key (y ∷ xs) d (suc i) {x} {v} q e =
+    let p = sym (at-next i y xs) ∙ q in
+    let o : eqb (key y) v ≡ false = subst (λ u. eqb (key y) u ≡ false) e (every-at _ i xs (key-others key (key y) xs (d .0)) p) in
+    rw o (ap suc (key-position key xs (d .1) i p e))
 
 -- Elements with an ID and inner elements with a number, as registers with instances and nodes with instances are.
 module _ {O I E : Type 0} (oid : O → ℕ) (inner : O → List I) (num : I → ℕ) (entry : O → I → E) (eid enum : E → ℕ)

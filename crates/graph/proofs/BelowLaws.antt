@@ -19,6 +19,11 @@ any-out zero p e = clash e refl
 any-out (suc n) p e =
     ⊎-elim (λ d. let r = any-out n p d in (r .0, omega (arith, r .1), r .2)) (λ d. (n, omega arith, d)) (or-cases (any n p) (p n) e)
 
+pub any-same : (n : ℕ) (p q : ℕ → Bool) → ((i : ℕ) → i < n → q i ≡ p i) → any n q ≡ any n p
+unfolding any
+any-same zero p q o = refl
+any-same (suc n) p q o = rw (o n (omega arith), any-same n p q (λ i h. o i (omega arith)))
+
 pub count-yes : (n : ℕ) (p : ℕ → Bool) → p n ≡ true → count (suc n) p ≡ suc (count n p)
 unfolding count
 count-yes n p e = rw e

@@ -1,4 +1,7 @@
 -- The laws of isolation, and the samples.
 pub mod RowsLaws
 pub mod WriteLaws
+pub mod GraphsLaws
+pub mod ChipLaws
+pub mod OutcomeLaws
 mod SamplesHold

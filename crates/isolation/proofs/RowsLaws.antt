@@ -43,7 +43,7 @@ module _ (act ch : List ℕ) (n i b : ℕ) (size : n ≡ sizeOf act) (h : i < n)
 
 -- One bit more, and one node instance more
 
-kept-append : (p : ℕ → Bool) (xs ys : List ℕ) → kept p (xs ++ ys) ≡ kept p xs ++ kept p ys
+pub kept-append : (p : ℕ → Bool) (xs ys : List ℕ) → kept p (xs ++ ys) ≡ kept p xs ++ kept p ys
 unfolding kept
 kept-append p [] ys = refl
 kept-append p (x ∷ xs) ys = go (p x) (kept-append p xs ys)

@@ -35,5 +35,10 @@ pub or-cases : (s t : Bool) → s || t ≡ true → (s ≡ true) ⊎ (t ≡ true
 or-cases true t e = inl refl
 or-cases false t e = inr e
 
+pub same-truth : (s t : Bool) → (s ≡ true → t ≡ true) → (t ≡ true → s ≡ true) → s ≡ t
+same-truth true t f g = sym (f refl)
+same-truth false true f g = g refl
+same-truth false false f g = refl
+
 pub same? : (i j : ℕ) → (i ≡ j) ⊎ (i ≡ j → ⊥)
 same? i j = elim (ℕ-discrete i j) [ yes e ↦ inl e | no n ↦ inr n ]

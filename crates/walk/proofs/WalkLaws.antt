@@ -20,7 +20,7 @@ use Rattle.walk.proofs.First.{first-waits, first-le}
 use Rattle.walk.proofs.Step.{length-tabulate, getD-tabulate}
 
 -- A node instance is reached from the root.
-abbrev R : Graph → ℕ → ℕ → Type 0
+abbrev pub R : Graph → ℕ → ℕ → Type 0
 R g root j = Reached (λ i. eqb i root) (linked g) j
 
 -- What holds of the root, and of each child of what it holds of, holds of all that is reached.
@@ -28,7 +28,7 @@ reached-fold : (g : Graph) (root : ℕ) (P : ℕ → Type 0) → P root → ((i 
 reached-fold g root P p f (here {j = j} e) = subst P (sym (eqb-true j root e)) p
 reached-fold g root P p f (next {i = i} {j = j} r e) = f i j (reached-fold g root P p f r) e
 
-reached-inside : (g : Graph) → Sound g → (root : ℕ) → root < g .size → {i : ℕ} → R g root i → i < g .size
+pub reached-inside : (g : Graph) → Sound g → (root : ℕ) → root < g .size → {i : ℕ} → R g root i → i < g .size
 reached-inside g s root h = reached-fold g root (λ i. i < g .size) h (λ i j q l. linked-inside g s root i j l .1)
 
 pub record Walking (g : Graph) (root : ℕ) (m : List ℕ) (s : ℕ) : Type 0 where

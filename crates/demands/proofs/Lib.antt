@@ -1,0 +1,8 @@
+-- The demands hold.
+pub mod RowsLaws
+pub mod ListingLaws
+pub mod ReachedLaws
+pub mod ActiveLaws
+pub mod Demand1
+pub mod Demand3
+pub mod Readings

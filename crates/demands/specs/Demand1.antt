@@ -1,0 +1,20 @@
+-- Demand 1 of the minutes, as far as it speaks of isolation's answer.
+use Prim.Native.Nat.{ℕ, _≤_}
+use mathlib.Core.List.{List}
+use mathlib.Core.Logic.{_⊎_}
+use mathlib.Core.Path.{_≡_}
+use lib.ListN.{length}
+use Rattle.isolation.specs.Outcome.{Outcome, isolate}
+
+-- "A refused call gives one number and one place from the table in document 01, and the list buffer it was lent keeps every byte." The table's numbers are 1 to 19; document 01: "zero records and zero steps".
+pub record RefusedCall (list : List ℕ) (o : Outcome) : Type 0 where
+  pub least : 1 ≤ o .number
+  pub most : o .number ≤ 19
+  pub records : o .records ≡ 0
+  pub steps : o .steps ≡ 0
+  pub keeps : o .list ≡ list
+
+-- Isolation succeeds or is refused, and the list keeps its length.
+pub record Demand1 (file : List ℕ) (attention : ℕ) (words read list : List ℕ) : Type 0 where
+  pub ends : (isolate file attention words read list .number ≡ 0) ⊎ RefusedCall list (isolate file attention words read list)
+  pub sized : length (isolate file attention words read list .list) ≡ length list
