@@ -2,3 +2,4 @@
 pub mod RootLaws
 pub mod LayoutLaws
 pub mod WholeLaws
+pub mod NameLaws

@@ -1,6 +1,7 @@
 // The reader of chip data files.
 use format::Refusal;
 
+mod faults;
 pub mod file;
 mod roots;
 

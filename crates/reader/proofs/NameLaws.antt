@@ -1,0 +1,70 @@
+-- The faults that the tables show are those of the file.
+use Prim.Native.Nat.{ℕ}
+use mathlib.Core.Bool.{true}
+use mathlib.Core.List.{List, [], _∷_, _++_, map}
+use mathlib.Core.Path.{_≡_, refl, sym, _∙_, ap}
+use Rattle.numbers.proofs.BigEndianLaws.{Bytes}
+use Rattle.format.specs.FileLayout.{rootsAt, fileAt}
+use Rattle.format.specs.Lookup.{gathered, NodeEntry, nodeEntries, nodeEntriesOf}
+use Rattle.format.specs.NodeLayout.{nodesAt}
+use Rattle.format.specs.Parsed.{Parsed, done, refused}
+use Rattle.format.specs.References.{instanceFaults, rootFaults, referenceFaults}
+use Rattle.format.specs.Rules.{Every}
+use Rattle.format.specs.Tree.{Root, Chip}
+use Rattle.format.proofs.FileAccepted.{file-out}
+use Rattle.format.proofs.Grouping.{LayoutMeets, layout-out}
+use Rattle.format.proofs.GatheredLaws.{gathered-same}
+use Rattle.format.proofs.ParsedLaws.{then-out, making-out}
+use Rattle.tables.specs.Faults.{judgedAt}
+use Rattle.tables.proofs.FaultsLaws.{judged-stop, judged-on}
+use Rattle.index.specs.Rows.{ReadAgain, entryPlace, entryWanted}
+use Rattle.index.specs.Columns.{TablesOf}
+use Rattle.index.proofs.RowsLaws.{nodes-again}
+use Rattle.references.specs.FaultsIn.{entryFaultsIn, rootFaultsIn}
+use Rattle.references.proofs.TablesLaws.{instances-same}
+use Rattle.references.proofs.RootsLaws.{roots-same}
+
+-- What a file that was read keeps to.
+pub layout-meets : (s : List ℕ) → Bytes s → {c : Chip} {end : ℕ} → fileAt s true 0 ≡ done c end → LayoutMeets c
+layout-meets s bytes {c} e = layout-out c (file-out s bytes e .1) .1
+
+-- Its node instances are read again at their places.
+pub entries-again : (s : List ℕ) {c : Chip} {end : ℕ} → fileAt s true 0 ≡ done c end → Every (ReadAgain s) (nodeEntries c)
+unfolding fileAt nodeEntries
+entries-again s {c} e =
+    let t = then-out _ _ e in
+    let u = then-out _ _ (t .3) in
+    let v = then-out _ _ (u .3) in
+    let g = making-out _ _ (v .3) in
+    let n : v .0 ≡ c .nodes = ap (λ x. x .nodes) (g .2) in
+    nodes-again s (u .1) (v .2 ∙ ap (λ x. done x (v .1)) n)
+
+module _ (s : List ℕ) (bytes : Bytes s) (keys kinds nodes wanted places : List ℕ) (c : Chip) (end : ℕ) (file : fileAt s true 0 ≡ done c end)
+    (tables : TablesOf c keys kinds nodes wanted places) where
+  instances-are : gathered (entryFaultsIn keys kinds nodes) (nodeEntries c) ≡ gathered (instanceFaults c) (nodeEntries c)
+  unfolding entryFaultsIn
+  instances-are =
+      let m = layout-meets s bytes file in
+      rw (tables .keys-are, tables .kinds-are, tables .nodes-are) (gathered-same _ _ (nodeEntries c) (instances-same c (m .fields) (m .unique)))
+
+  roots-are : gathered (rootFaultsIn nodes (nodeEntries c)) (c .roots) ≡ gathered (rootFaults c) (c .roots)
+  roots-are = let m = layout-meets s bytes file in rw (tables .nodes-are) (roots-same c (m .fields) (m .unique))
+
+  module _ {y : Parsed (Unit {0})}
+      (f : (es : List NodeEntry) → Every (ReadAgain s) es → places ≡ map entryPlace es → wanted ≡ map entryWanted es → y ≡ judgedAt (gathered (entryFaultsIn keys kinds nodes) es) 0) where
+    nodes-judged : y ≡ judgedAt (gathered (instanceFaults c) (nodeEntries c)) 0
+    nodes-judged = f (nodeEntries c) (entries-again s file) (tables .places-are) (tables .wanted-are) ∙ ap (λ z. judgedAt z 0) instances-are
+
+    -- A node instance's fault decides.
+    pub names-refused : {n p : ℕ} → y ≡ refused n p → refused n p ≡ judgedAt (referenceFaults c) end
+    unfolding referenceFaults
+    names-refused e = sym (judged-stop (gathered (instanceFaults c) (nodeEntries c)) (gathered (rootFaults c) (c .roots)) 0 end (sym nodes-judged ∙ e))
+
+    -- Where there is none, the roots decide.
+    pub names-roots : {u : Unit {0}} {a : ℕ} → y ≡ done u a → {z : Parsed (Unit {0})} (at : ℕ)
+        → ((es : List NodeEntry) → Every (ReadAgain s) es → places ≡ map entryPlace es → (ts : List Root) (m : ℕ) → rootsAt s true at ≡ done ts m → z ≡ judgedAt (gathered (rootFaultsIn nodes es) ts) m)
+        → rootsAt s true at ≡ done (c .roots) end → z ≡ judgedAt (referenceFaults c) end
+    unfolding referenceFaults
+    names-roots e {z} at g r =
+        let j = judged-on (gathered (instanceFaults c) (nodeEntries c)) (gathered (rootFaults c) (c .roots)) end (sym nodes-judged ∙ e) in
+        g (nodeEntries c) (entries-again s file) (tables .places-are) (c .roots) end r ∙ ap (λ x. judgedAt x end) roots-are ∙ sym (j .1)
