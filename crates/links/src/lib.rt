@@ -6,13 +6,18 @@ use fields::byte_at;
 use nodes::InstanceHeadRead;
 use nodes::captures_at;
 use nodes::instance_head_at;
+use tables::put;
 ghost use Prim.Native.Nat.{ℕ};
 ghost use mathlib.Core.Bool.{true};
-ghost use mathlib.Core.List.{List, []};
+ghost use mathlib.Core.List.{List, [], map};
 ghost use mathlib.Core.Path.{_≡_};
+ghost use Rattle.format.specs.Lookup.{NodeEntry};
 ghost use Rattle.format.specs.NodeLayout.{ruleAt, nodeInstanceAt};
 ghost use Rattle.format.specs.Parsed.{done, rowAt};
+ghost use Rattle.format.specs.Rules.{Every};
 ghost use Rattle.format.specs.Tree.{Rule, NodeInstance};
+ghost use Rattle.tables.specs.Tables.{written};
+ghost use Rattle.index.specs.Rows.{ReadAgain};
 ghost use Rattle.links.specs.Links.{rulePlace};
 
 // The place of the expression of the first of so many rules that is for an attention type; 0 where there is none. It reads each byte of the rules before it once.
@@ -63,5 +68,18 @@ pub fn rule_place(s: &[u8], at: usize, attention: u8) -> usize
             }
         }
         InstanceHeadRead::Refused(_) => 0,
+    }
+}
+
+// The place of each node instance's rule for an attention type, from the front of `rules` on; `places` are the places of the instances. It reads the captures and
+// the rules of each instance once.
+pub fn fill_rules(s: &[u8], places: &[u64], attention: u8, rules: &mut [u64])
+    ensures { λ r. ⌜ ((es : List NodeEntry) → Every (ReadAgain (now (s .entry))) es → now (places .entry) ≡ map (λ e. e .instance .place) es → now (rules .exit) ≡ written (now (rules .entry)) 0 (map (λ e. rulePlace attention (e .instance .rules)) es)) ⌝ }
+{
+    let mut i = 0;
+    while i < places.len() {
+        let place = rule_place(s, places[i] as usize, attention);
+        put(rules, i, place as u64);
+        i += 1;
     }
 }
