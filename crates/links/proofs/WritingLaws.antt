@@ -5,7 +5,7 @@ use mathlib.Core.Path.{_≡_, refl, sym, _∙_, ap, subst}
 use native.Mathlib.Numerals.{add-one}
 use native.Mathlib.Omega.{arith}
 use lib.ListN.{length, drop, getD, set, drop-of-length-le}
-use lib.Seq.{drop-cons}
+use lib.Seq.{drop-cons, set-out}
 use Rattle.format.specs.Lookup.{NodeEntry, gathered}
 use Rattle.format.specs.Rules.{Every}
 use Rattle.tables.specs.Tables.{written}
@@ -21,6 +21,11 @@ module _ {A : Type 0} (f : A → ℕ) where
   values-none : (ys : List A) → [] ≡ map f ys → [] ≡ ys
   values-none [] e = refl
   values-none (y ∷ ys) e = let z : _≡_ {A = ℕ} 0 1 = cc in absurd (omega arith)
+
+written-beyond : (t : List ℕ) (k : ℕ) (xs : List ℕ) → length t ≤ k → written t k xs ≡ t
+unfolding written
+written-beyond t k [] h = refl
+written-beyond t k (x ∷ xs) h = ap (λ u. written u (suc k) xs) (set-out t k x h) ∙ written-beyond t (suc k) xs (omega arith)
 
 abbrev placeOf : NodeEntry → ℕ
 placeOf e = e .instance .place
@@ -57,6 +62,10 @@ module _ (s places : List ℕ) (row : NodeEntry → List ℕ) where
         let r = f .rest es a e in
         let d = values-none placeOf (r .0) (sym (drop-of-length-le places h) ∙ r .2) in
         ap (λ z. written t k (gathered row z)) d ∙ r .3
+
+    -- A table that is full.
+    pub writing-full : length t ≤ k → (es : List NodeEntry) → Every (ReadAgain s) es → places ≡ map placeOf es → t ≡ written t₀ 0 (gathered row es)
+    writing-full h es a e = let r = f .rest es a e in sym (written-beyond t k (gathered row (r .0)) h) ∙ r .3
 
 -- One number for each instance.
 pub one-written : (t : List ℕ) (k : ℕ) {u : List ℕ} {x y : ℕ} → u ≡ set t k x → x ≡ y → (u ≡ written t k (y ∷ [])) × (k + 1 ≡ k + length (y ∷ []))
