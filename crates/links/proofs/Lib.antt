@@ -1,3 +1,6 @@
 -- The laws of what node instances lead to.
 pub mod RowLaws
+pub mod PassedLaws
 pub mod LinksLaws
+pub mod WritingLaws
+pub mod ChildrenLaws

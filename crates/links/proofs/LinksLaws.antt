@@ -2,7 +2,7 @@
 use Prim.Native.Nat.{ℕ, _+_, _<_}
 use mathlib.Core.Bool.{Bool, true, false, not, cond, _||_}
 use mathlib.Core.List.{List, [], _∷_}
-use mathlib.Core.Path.{_≡_, refl, sym, _∙_, ap}
+use mathlib.Core.Path.{_≡_, refl, sym, _∙_}
 use native.Mathlib.Omega.{arith}
 use lib.Dec.{eqb}
 use borrow.Author.Tests.{eq-eqb, ne-eqb}
@@ -10,84 +10,44 @@ use Rattle.format.specs.Fields.{fieldAt}
 use Rattle.format.specs.ExpressionLayout.{exprAt}
 use Rattle.format.specs.Limits.{levels}
 use Rattle.format.specs.Lookup.{some}
-use Rattle.format.specs.NodeLayout.{InstanceHead, captureAt, ruleAt, instanceHeadAt, nodeInstanceAt}
-use Rattle.format.specs.Parsed.{Parsed, done, refused, making, rowAt}
+use Rattle.format.specs.NodeLayout.{ruleAt, nodeInstanceAt}
+use Rattle.format.specs.Parsed.{done, refused, rowAt}
 use Rattle.format.specs.Rules.{Every}
 use Rattle.format.specs.Tree.{Rule, NodeInstance}
-use Rattle.format.proofs.ParsedLaws.{never, require-out}
+use Rattle.format.proofs.ParsedLaws.{require-out}
 use Rattle.fields.specs.Views.{forget}
-use Rattle.index.proofs.Again.{done-out, same-done, not-refused}
+use Rattle.index.proofs.Again.{done-out, same-done}
 use Rattle.index.proofs.PartsLaws.{rule-fields, instance-parts}
 use Rattle.index.proofs.RowsLaws.{row-every}
 use Rattle.links.specs.Links.{rulePlace}
-
--- What is passed over was read.
-module _ {A : Type 0} {p : Parsed A} {a : A} {m : ℕ} (e : p ≡ done a m) where
-  pub passed-over : {u : Unit {0}} {next : ℕ} → done u next ≡ forget p → next ≡ m
-  unfolding making
-  passed-over d = done-out (d ∙ ap forget e) .1
-
-  pub not-passed : {B : Type 0} {w z : ℕ} → refused w z ≡ forget p → B
-  unfolding making
-  not-passed d = never (d ∙ ap forget e)
+use Rattle.links.proofs.PassedLaws.{passed-over}
 
 pub rule-none : (attention : ℕ) → 0 ≡ rulePlace attention []
 unfolding rulePlace
 rule-none attention = refl
 
-module _ (s : List ℕ) (at : ℕ) where
-  -- A rule whose attention type t the code read, with the place a after it.
-  module _ {t a : ℕ} (o : done t a ≡ fieldAt s at 1) (before : List Rule) (r : Rule) (m : ℕ) (e : ruleAt s true before at ≡ done r m) where
-    pub rule-found : (attention : ℕ) → t ≡ attention → (rs : List Rule) → a ≡ rulePlace attention (r ∷ rs)
-    unfolding rulePlace
-    rule-found attention h rs =
-        let i = same-done o (rule-fields s at before e .0) in
-        let q : r .attention ≡ attention = sym (i .0) ∙ h in
-        simp (eq-eqb _ _ q, i .1)
+-- A rule whose attention type t the code read, with the place a after it.
+module _ (s : List ℕ) (at : ℕ) {t a : ℕ} (o : done t a ≡ fieldAt s at 1) (before : List Rule) (r : Rule) (m : ℕ) (e : ruleAt s true before at ≡ done r m) where
+  pub rule-found : (attention : ℕ) → t ≡ attention → (rs : List Rule) → a ≡ rulePlace attention (r ∷ rs)
+  unfolding rulePlace
+  rule-found attention h rs =
+      let i = same-done o (rule-fields s at before e .0) in
+      let q : r .attention ≡ attention = sym (i .0) ∙ h in
+      simp (eq-eqb _ _ q, i .1)
 
-    pub rule-other : (attention : ℕ) → (t ≡ attention → ⊥) → {u : Unit {0}} {next : ℕ} → done u next ≡ forget (exprAt s 16 a)
-        → (next ≡ m) × ((rs : List Rule) → rulePlace attention rs ≡ rulePlace attention (r ∷ rs))
-    unfolding rulePlace levels
-    rule-other attention h d =
-        let f = rule-fields s at before e in
-        let i = same-done o (f .0) in
-        let x : exprAt s 16 a ≡ done (r .expression) m = rw (i .1) (f .1) in
-        (passed-over x d, λ rs. simp (ne-eqb (r .attention) attention (λ q. h (i .0 ∙ q))))
+  pub rule-expression : exprAt s 16 a ≡ done (r .expression) m
+  unfolding levels
+  rule-expression =
+      let f = rule-fields s at before e in
+      let i = same-done o (f .0) in
+      rw (i .1) (f .1)
 
-    pub rule-cut : {B : Type 0} {w z : ℕ} → refused w z ≡ forget (exprAt s 16 a) → B
-    unfolding levels
-    rule-cut d =
-        let f = rule-fields s at before e in
-        let i = same-done o (f .0) in
-        let x : exprAt s 16 a ≡ done (r .expression) m = rw (i .1) (f .1) in
-        not-passed x d
-
-  pub rule-there : {B : Type 0} {w z : ℕ} → refused w z ≡ fieldAt s at 1 → (before : List Rule) (r : Rule) (m : ℕ) → ruleAt s true before at ≡ done r m → B
-  rule-there d before r m e = not-refused d (rule-fields s at before e .0)
-
-  -- A node instance whose head the code read, with the place a after it.
-  module _ {h : InstanceHead} {a : ℕ} (o : done h a ≡ instanceHeadAt s true 0 [] at)
-      (total : ℕ) (before : List NodeInstance) (i : NodeInstance) (m : ℕ) (e : nodeInstanceAt s true total before at ≡ done i m) where
-    pub rules-found : (attention : ℕ) {u : Unit {0}} {b v : ℕ} → done u b ≡ forget (rowAt (captureAt s) (h .captures) [] a)
-        → ((rs : List Rule) (m : ℕ) → rowAt (ruleAt s true) (h .rules) [] b ≡ done rs m → v ≡ rulePlace attention rs)
-        → v ≡ rulePlace attention (i .rules)
-    rules-found attention {u} {b} {v} d f =
-        let q = instance-parts s at total before e in
-        let g = same-done o (q .read) in
-        let k : rowAt (captureAt s) (h .captures) [] a ≡ done (i .captures) (q .rules-at) = rw (g .0, g .1) (q .captures) in
-        let c : b ≡ q .rules-at = passed-over k d in
-        f (i .rules) (q .children-at) (rw (g .0, c) (q .rules))
-
-    pub captures-cut : {B : Type 0} {w z : ℕ} → refused w z ≡ forget (rowAt (captureAt s) (h .captures) [] a) → B
-    captures-cut d =
-        let q = instance-parts s at total before e in
-        let g = same-done o (q .read) in
-        let k : rowAt (captureAt s) (h .captures) [] a ≡ done (i .captures) (q .rules-at) = rw (g .0, g .1) (q .captures) in
-        not-passed k d
-
-  pub instance-there : {B : Type 0} {w z : ℕ} → refused w z ≡ instanceHeadAt s true 0 [] at
-      → (total : ℕ) (before : List NodeInstance) (i : NodeInstance) (m : ℕ) → nodeInstanceAt s true total before at ≡ done i m → B
-  instance-there d total before i m e = not-refused d (instance-parts s at total before e .read)
+  pub rule-other : (attention : ℕ) → (t ≡ attention → ⊥) → {u : Unit {0}} {next : ℕ} → done u next ≡ forget (exprAt s 16 a)
+      → (next ≡ m) × ((rs : List Rule) → rulePlace attention rs ≡ rulePlace attention (r ∷ rs))
+  unfolding rulePlace
+  rule-other attention h d =
+      let i = same-done o (rule-fields s at before e .0) in
+      (passed-over rule-expression d, λ rs. simp (ne-eqb (r .attention) attention (λ q. h (i .0 ∙ q))))
 
 -- The place after a field is not the first.
 field-place : (s : List ℕ) (at : ℕ) {x p : ℕ} → fieldAt s at 1 ≡ done x p → 0 < p

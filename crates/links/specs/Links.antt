@@ -1,11 +1,35 @@
--- What node instances lead to: the rule of each for an attention type.
-use Prim.Native.Nat.{ℕ}
+-- What node instances lead to: the rule of each for an attention type, and the children of each.
+use Prim.Native.Nat.{ℕ, _+_, _%_}
 use mathlib.Core.Bool.{cond}
 use mathlib.Core.List.{List, [], _∷_}
 use lib.Dec.{eqb}
-use Rattle.format.specs.Tree.{Rule}
+use lib.ListN.{set, replicate}
+use Rattle.format.specs.Tree.{Rule, Child, NodeInstance}
+use Rattle.tables.specs.Faults.{positionIn}
+use Rattle.links.specs.declared.Link.{Link}
 
 -- The place of the expression of the first rule for an attention type; 0 where there is none.
 unfoldable pub rulePlace : ℕ → List Rule → ℕ
 rulePlace attention [] = 0
 rulePlace attention (r ∷ rs) = cond (eqb (r .attention) attention) (r .place) (rulePlace attention rs)
+
+-- What a table of children holds for a child: the position of the node instance that it names among the keys.
+unfoldable pub childNumber : List ℕ → Child → ℕ
+childNumber nodes k = positionIn nodes (k .id) (k .number) % 0x10000
+
+-- A table after some children were written to it, each at its bit counted from a place on.
+unfoldable pub linked : List ℕ → List ℕ → ℕ → List Child → List ℕ
+linked nodes table at [] = table
+linked nodes table at (k ∷ ks) = linked nodes (set table (at + k .bit) (childNumber nodes k)) at ks
+
+-- So many places without a child.
+unfoldable pub childless : ℕ → List ℕ
+childless n = replicate n 0xFFFF
+
+-- The 64 places of a node instance in a table of children.
+unfoldable pub childRow : List ℕ → NodeInstance → List ℕ
+childRow nodes i = linked nodes (childless 64) 0 (i .children)
+
+-- What is kept of a child, with the place after it.
+abbrev pub linkOf : List ℕ → Child → ℕ → Link
+linkOf nodes k next = record { bit = k .bit; number = childNumber nodes k; next = next }

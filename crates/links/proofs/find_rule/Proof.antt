@@ -6,9 +6,12 @@ use borrow.Author.Needs.{needs}
 use Rattle.format.specs.NodeLayout.{ruleAt}
 use Rattle.format.specs.Parsed.{rowAt}
 use Rattle.fields.specs.Views.{byteParsed, nextParsed}
+use Rattle.index.proofs.Again.{not-refused}
+use Rattle.index.proofs.PartsLaws.{rule-fields}
 use Rattle.links.specs.Links.{rulePlace}
 use Rattle.links.proofs.RowLaws.{Going, going-begin, going-next, going-stop, going-end}
-use Rattle.links.proofs.LinksLaws.{rule-found, rule-other, rule-cut, rule-there, rule-none}
+use Rattle.links.proofs.PassedLaws.{not-passed}
+use Rattle.links.proofs.LinksLaws.{rule-none, rule-found, rule-expression, rule-other}
 use Rattle.links.proofs.find_rule.Statement.{statement}
 use Rattle.links.proofs.find_rule.Tie as tie
 
@@ -29,13 +32,13 @@ returns c =
 returns-2 : tie.Need-returns-2 Inv-loop μ-loop
 returns-2 c =
     going-stop _ _ (c .before .before .before .before .before .before .before .before .before .loop .inv) (c .before .before .before .before .before .before .before .before .loop-test .taken)
-    (λ before r m e. rule-cut _ _ (sym (ap byteParsed (c .before .before .before .before .before .b .given .1)) ∙ c .before .before .before .before .before .before .before .byte-at .ensures) before r m e
+    (λ before r m e. not-passed (rule-expression _ _ (sym (ap byteParsed (c .before .before .before .before .before .b .given .1)) ∙ c .before .before .before .before .before .before .before .byte-at .ensures) before r m e)
     (sym (ap nextParsed (c .enum-told .given .1)) ∙ c .before .before .expression-at .ensures))
 
 returns-3 : tie.Need-returns-3 Inv-loop μ-loop
 returns-3 c =
     going-stop _ _ (c .before .before .before .before .loop .inv) (c .before .before .before .loop-test .taken)
-    (λ before r m e. rule-there _ _ (sym (ap byteParsed (c .enum-told2 .given .1)) ∙ c .before .before .byte-at .ensures) before r m e)
+    (λ before r m e. not-refused (sym (ap byteParsed (c .enum-told2 .given .1)) ∙ c .before .before .byte-at .ensures) (rule-fields _ _ before e .0))
 
 loop-again : tie.Need-loop-again Inv-loop μ-loop
 loop-again c =

@@ -4,23 +4,28 @@ use borrow.Author.Needs.{needs}
 use Rattle.fields.specs.Views.{nextParsed}
 use Rattle.fields.proofs.SeenLaws.{tells-none}
 use Rattle.nodes.specs.Nodes.{instanceHeadParsed}
-use Rattle.links.proofs.LinksLaws.{rules-found, captures-cut, instance-there}
+use Rattle.index.proofs.Again.{not-refused}
+use Rattle.index.proofs.PartsLaws.{instance-parts}
+use Rattle.links.proofs.PassedLaws.{not-passed, captures-after, rules-after}
 use Rattle.links.proofs.rule_place.Statement.{statement}
 use Rattle.links.proofs.rule_place.Tie as tie
 
 returns : tie.Need-returns
 returns c =
-    λ total before i m e. rules-found _ _ (sym (ap instanceHeadParsed (c .before .before .before .before .before .before .top .given .1)) ∙ c .before .before .before .before .before .before .before .before .instance-head-at .ensures [] (tells-none 1)) total before i m e
-    _ (sym (ap nextParsed (c .before .before .c .given .1)) ∙ c .before .before .before .before .captures-at .ensures) (c .find-rule .ensures)
+    λ total before i m e.
+    let r = rules-after _ _ (sym (ap instanceHeadParsed (c .before .before .before .before .before .before .top .given .1)) ∙ c .before .before .before .before .before .before .before .before .instance-head-at .ensures [] (tells-none 1)) total before i m e
+    (sym (ap nextParsed (c .before .before .c .given .1)) ∙ c .before .before .before .before .captures-at .ensures) in
+    c .find-rule .ensures (i .rules) (r .0) (r .1)
 
 returns-2 : tie.Need-returns-2
 returns-2 c =
-    λ total before i m e. captures-cut _ _ (sym (ap instanceHeadParsed (c .before .before .before .before .top .given .1)) ∙ c .before .before .before .before .before .before .instance-head-at .ensures [] (tells-none 1)) total before i m e
-    (sym (ap nextParsed (c .enum-told .given .1)) ∙ c .before .before .captures-at .ensures)
+    λ total before i m e.
+    let r = captures-after _ _ (sym (ap instanceHeadParsed (c .before .before .before .before .top .given .1)) ∙ c .before .before .before .before .before .before .instance-head-at .ensures [] (tells-none 1)) total before i m e in
+    not-passed (r .1) (sym (ap nextParsed (c .enum-told .given .1)) ∙ c .before .before .captures-at .ensures)
 
 returns-3 : tie.Need-returns-3
 returns-3 c =
-    λ total before i m e. instance-there _ _ (sym (ap instanceHeadParsed (c .enum-told2 .given .1)) ∙ c .before .before .instance-head-at .ensures [] (tells-none 1)) total before i m e
+    λ total before i m e. not-refused (sym (ap instanceHeadParsed (c .enum-told2 .given .1)) ∙ c .before .before .instance-head-at .ensures [] (tells-none 1)) (instance-parts _ _ total before e .read)
 
 pub rule-place-spec : {M : Type 1} → statement M
 rule-place-spec =

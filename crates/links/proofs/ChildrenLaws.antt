@@ -1,0 +1,139 @@
+-- The laws of a node instance's children in a table.
+use Prim.Native.Nat.{ℕ, zero, suc, _+_, _-_, _%_, _≤_, _<_}
+use mathlib.Core.Bool.{true}
+use mathlib.Core.List.{List, [], _∷_}
+use mathlib.Core.Path.{_≡_, refl, sym, _∙_, ap, subst}
+use native.Mathlib.Numerals.{add-one, sub-one}
+use native.Mathlib.Omega.{arith}
+use borrow.Author.Tests.{ltb-true}
+use lib.Dec.{ltb}
+use lib.ListN.{length, set, length-set, length-replicate}
+use lib.Seq.{set-set, set-comm}
+use Rattle.format.specs.Fields.{fieldAt}
+use Rattle.format.specs.NodeLayout.{childAt}
+use Rattle.format.specs.Parsed.{Parsed, done, rowAt}
+use Rattle.format.specs.Rules.{Every}
+use Rattle.format.specs.Tree.{Child, NodeInstance}
+use Rattle.format.proofs.ParsedLaws.{then-out, making-out, requiring-out}
+use Rattle.tables.specs.Tables.{written}
+use Rattle.tables.specs.Faults.{positionIn}
+use Rattle.index.proofs.Again.{same-done}
+use Rattle.index.proofs.PartsLaws.{child-fields}
+use Rattle.index.proofs.RowsLaws.{row-every}
+use Rattle.links.specs.declared.Link.{Link}
+use Rattle.links.specs.Links.{childNumber, linked, childless, childRow, linkOf}
+
+-- A child whose bit t the code read, with the place a after it.
+module _ (s : List ℕ) (at : ℕ) {t a : ℕ} (o : done t a ≡ fieldAt s at 1) (before : List Child) (k : Child) (m : ℕ) (e : childAt s true before at ≡ done k m) where
+  pub child-id : (b : ℕ) × (fieldAt s a 2 ≡ done (k .id) b) × (fieldAt s b 1 ≡ done (k .number) m) × (t ≡ k .bit)
+  child-id =
+      let f = child-fields s at before e in
+      let g = same-done o (f .2) in
+      (f .1, rw (g .1) (f .3), f .4, g .0)
+
+  module _ {id b : ℕ} (p : done id b ≡ fieldAt s a 2) where
+    pub child-number : (fieldAt s b 1 ≡ done (k .number) m) × (id ≡ k .id)
+    child-number =
+        let f = child-id in
+        let g = same-done p (f .1) in
+        (rw (g .1) (f .2), g .0)
+
+    pub child-link : (nodes : List ℕ) {number next x : ℕ} → done number next ≡ fieldAt s b 1 → x ≡ positionIn nodes id number
+        → _≡_ {A = Link} (record { bit = t; number = x % 0x10000; next = next }) (linkOf nodes k m)
+    unfolding childNumber
+    child-link nodes q h =
+        let f = child-number in
+        let g = same-done q (f .0) in
+        rw (h, child-id .3, f .1, g .0, g .1)
+
+-- The bit of a child that was read.
+child-small : (s : List ℕ) (before : List Child) (at : ℕ) (k : Child) (m : ℕ) → childAt s true before at ≡ done k m → k .bit < 64
+unfolding childAt
+child-small s before at k m e =
+    let t = then-out _ _ e in
+    let q = requiring-out _ _ _ _ (t .2) in
+    let p = requiring-out _ _ _ _ (q .0) in
+    let c = then-out _ _ (t .3) in
+    let g = making-out _ _ (c .3) in
+    let b : t .0 ≡ k .bit = ap (λ x. x .bit) (g .2) in
+    let l : t .0 < 64 = ltb-true _ _ (p .1) in
+    omega arith
+
+pub children-small : (s : List ℕ) (n : ℕ) (before : List Child) (at : ℕ) {ks : List Child} {m : ℕ} → rowAt (childAt s true) n before at ≡ done ks m → Every (λ k. k .bit < 64) ks
+children-small s n before at e = row-every (childAt s true) (λ k. k .bit < 64) (child-small s) n before at e
+
+-- Places without a child.
+
+pub childless-length : (n : ℕ) → length (childless n) ≡ n
+unfolding childless
+childless-length n = length-replicate n 0xFFFF
+
+pub cleared-next : (t : List ℕ) (p left : ℕ) {u : List ℕ} → u ≡ set t p 0xFFFF → 0 < left → written u (p + 1) (childless (left - 1)) ≡ written t p (childless left)
+unfolding childless written
+cleared-next t p zero e h = absurd (omega arith)
+cleared-next t p (suc n) e h = rw (e, add-one, sub-one)
+
+pub cleared-end : (t : List ℕ) (p left : ℕ) → left ≤ 0 → written t p (childless left) ≡ t
+unfolding childless written
+cleared-end t p zero h = refl
+cleared-end t p (suc n) h = absurd (omega arith)
+
+-- Children in a table.
+
+pub linked-length : (nodes t : List ℕ) (at : ℕ) (ks : List Child) → length (linked nodes t at ks) ≡ length t
+unfolding linked
+linked-length nodes t at [] = refl
+linked-length nodes t at (k ∷ ks) = linked-length nodes (set t (at + k .bit) (childNumber nodes k)) at ks ∙ length-set t (at + k .bit) (childNumber nodes k)
+
+pub row-length : (nodes : List ℕ) (i : NodeInstance) → length (childRow nodes i) ≡ 64
+unfolding childRow
+row-length nodes i = linked-length nodes (childless 64) 0 (i .children) ∙ childless-length 64
+
+pub link-next : (nodes t : List ℕ) (at : ℕ) (k : Child) (m : ℕ) {l : Link} {u : List ℕ} → l ≡ linkOf nodes k m → u ≡ set t (at + l .bit) (l .number)
+    → (l .next ≡ m) × ((ks : List Child) → linked nodes u at ks ≡ linked nodes t at (k ∷ ks))
+unfolding linked
+link-next nodes t at k m e h = (ap (λ x. x .next) e, λ ks. rw (h, e))
+
+pub linked-none : (nodes t : List ℕ) (at : ℕ) → t ≡ linked nodes t at []
+unfolding linked
+linked-none nodes t at = refl
+
+-- A number before those that were written, and one of them.
+set-before : (t : List ℕ) (k j x : ℕ) (xs : List ℕ) → j < k → set (written t k xs) j x ≡ written (set t j x) k xs
+unfolding written
+set-before t k j x [] h = refl
+set-before t k j x (y ∷ xs) h =
+    set-before (set t k y) (suc k) j x xs (omega arith) ∙ ap (λ u. written u (suc k) xs) (set-comm t k j y x (λ e. absurd (omega arith)))
+
+set-written : (t : List ℕ) (k b x : ℕ) (row : List ℕ) → b < length row → set (written t k row) (k + b) x ≡ written t k (set row b x)
+unfolding written
+set-written t k b x [] h = absurd (omega arith)
+set-written t k zero x (y ∷ row) h =
+    ap (λ j. set (written (set t k y) (suc k) row) j x) (let e : k + 0 ≡ k = omega arith in e)
+    ∙ set-before (set t k y) (suc k) k x row (omega arith)
+    ∙ ap (λ u. written u (suc k) row) (set-set t k y x)
+set-written t k (suc b) x (y ∷ row) h =
+    ap (λ j. set (written (set t k y) (suc k) row) j x) (let e : k + suc b ≡ suc k + b = omega arith in e)
+    ∙ set-written (set t k y) (suc k) b x row (omega arith)
+
+linked-written : (nodes t : List ℕ) (k n : ℕ) (row : List ℕ) (ks : List Child) → length row ≡ n → Every (λ c. c .bit < n) ks
+    → linked nodes (written t k row) k ks ≡ written t k (linked nodes row 0 ks)
+unfolding linked Every
+linked-written nodes t k n row [] e h = refl
+linked-written nodes t k n row (c ∷ ks) e h =
+    let b : c .bit < length row = omega (arith, h .0) in
+    let z : 0 + c .bit ≡ c .bit = omega arith in
+    rw z
+    (ap (λ u. linked nodes u k ks) (set-written t k (c .bit) (childNumber nodes c) row b)
+    ∙ linked-written nodes t k n (set row (c .bit) (childNumber nodes c)) ks (length-set row (c .bit) (childNumber nodes c) ∙ e) (h .1))
+
+-- A row is places without a child, and then the children.
+pub row-put : (nodes t : List ℕ) (k : ℕ) (i : NodeInstance) {w x : List ℕ} → Every (λ c. c .bit < 64) (i .children) → w ≡ written t k (childless 64)
+    → x ≡ linked nodes w k (i .children) → x ≡ written t k (childRow nodes i)
+unfolding childRow
+row-put nodes t k i b g h =
+    h ∙ ap (λ u. linked nodes u k (i .children)) g ∙ linked-written nodes t k 64 (childless 64) (i .children) (childless-length 64) b
+
+pub row-written : (nodes t : List ℕ) (k : ℕ) (i : NodeInstance) {u : List ℕ} → u ≡ written t k (childRow nodes i)
+    → (u ≡ written t k (childRow nodes i)) × (k + 64 ≡ k + length (childRow nodes i))
+row-written nodes t k i e = (e, ap (λ n. k + n) (sym (row-length nodes i)))

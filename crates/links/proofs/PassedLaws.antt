@@ -1,0 +1,48 @@
+-- The parts of a node instance that the code passes over.
+use Prim.Native.Nat.{ℕ}
+use mathlib.Core.Bool.{true}
+use mathlib.Core.List.{List, []}
+use mathlib.Core.Path.{_≡_, _∙_, ap}
+use Rattle.format.specs.NodeLayout.{InstanceHead, captureAt, ruleAt, childAt, instanceHeadAt, nodeInstanceAt}
+use Rattle.format.specs.Parsed.{Parsed, done, refused, making, rowAt}
+use Rattle.format.specs.Tree.{NodeInstance}
+use Rattle.format.proofs.ParsedLaws.{never}
+use Rattle.fields.specs.Views.{forget}
+use Rattle.index.proofs.Again.{done-out, same-done}
+use Rattle.index.proofs.PartsLaws.{Parts, instance-parts}
+
+-- What is passed over was read.
+module _ {A : Type 0} {p : Parsed A} {a : A} {m : ℕ} (e : p ≡ done a m) where
+  pub passed-over : {u : Unit {0}} {next : ℕ} → done u next ≡ forget p → next ≡ m
+  unfolding making
+  passed-over d = done-out (d ∙ ap forget e) .1
+
+  pub not-passed : {B : Type 0} {w z : ℕ} → refused w z ≡ forget p → B
+  unfolding making
+  not-passed d = never (d ∙ ap forget e)
+
+-- A node instance whose head the code read, with the place a after it; b is the place after its captures, and c that after its rules.
+module _ (s : List ℕ) (at : ℕ) {h : InstanceHead} {a : ℕ} (o : done h a ≡ instanceHeadAt s true 0 [] at)
+    (total : ℕ) (before : List NodeInstance) (i : NodeInstance) (m : ℕ) (e : nodeInstanceAt s true total before at ≡ done i m) where
+  pub captures-after : (b : ℕ) × (rowAt (captureAt s) (h .captures) [] a ≡ done (i .captures) b)
+  captures-after =
+      let q = instance-parts s at total before e in
+      let g = same-done o (q .read) in
+      (q .rules-at, rw (g .0, g .1) (q .captures))
+
+  module _ {u : Unit {0}} {b : ℕ} (p : done u b ≡ forget (rowAt (captureAt s) (h .captures) [] a)) where
+    pub rules-after : (c : ℕ) × (rowAt (ruleAt s true) (h .rules) [] b ≡ done (i .rules) c)
+    rules-after =
+        let q = instance-parts s at total before e in
+        let g = same-done o (q .read) in
+        let k : rowAt (captureAt s) (h .captures) [] a ≡ done (i .captures) (q .rules-at) = rw (g .0, g .1) (q .captures) in
+        (q .children-at, rw (g .0, passed-over k p) (q .rules))
+
+    pub children-after : {v : Unit {0}} {c : ℕ} → done v c ≡ forget (rowAt (ruleAt s true) (h .rules) [] b)
+        → rowAt (childAt s true) (h .children) [] c ≡ done (i .children) m
+    children-after {v} {c} r =
+        let q = instance-parts s at total before e in
+        let g = same-done o (q .read) in
+        let k : rowAt (captureAt s) (h .captures) [] a ≡ done (i .captures) (q .rules-at) = rw (g .0, g .1) (q .captures) in
+        let l : rowAt (ruleAt s true) (h .rules) [] b ≡ done (i .rules) (q .children-at) = rw (g .0, passed-over k p) (q .rules) in
+        rw (g .0, passed-over l r) (q .children)

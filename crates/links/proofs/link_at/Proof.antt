@@ -1,0 +1,48 @@
+use mathlib.Core.Path.{_≡_, sym, _∙_, ap}
+use borrow.Author.Needs.{needs}
+use Rattle.fields.specs.Views.{byteParsed, numberParsed}
+use Rattle.index.proofs.Again.{not-refused}
+use Rattle.index.proofs.PartsLaws.{child-fields}
+use Rattle.links.proofs.ChildrenLaws.{child-id, child-number, child-link}
+use Rattle.links.proofs.link_at.Statement.{statement}
+use Rattle.links.proofs.link_at.Tie as tie
+
+returns : tie.Need-returns
+returns c =
+    λ before k m e. child-link _ _ (sym (ap byteParsed (c .before .before .before .before .before .before .before .before .before .before .b .given .1)) ∙ c .before .before .before .before .before .before .before .before .before .before .before .before .byte-at .ensures) before k m e
+    (sym (ap numberParsed (c .before .before .before .before .before .before .i .given .1)) ∙ c .before .before .before .before .before .before .before .before .number-at .ensures) _
+    (sym (ap byteParsed (c .before .before .n .given .1)) ∙ c .before .before .before .before .byte-at2 .ensures) (c .name-position .ensures)
+
+returns-2 : tie.Need-returns-2
+returns-2 c =
+    λ before k m e. not-refused (sym (ap byteParsed (c .enum-told .given .1)) ∙ c .before .before .byte-at2 .ensures)
+    (child-number _ _ (sym (ap byteParsed (c .before .before .before .before .before .before .before .before .b .given .1)) ∙ c .before .before .before .before .before .before .before .before .before .before .byte-at .ensures) before k m e
+    (sym (ap numberParsed (c .before .before .before .before .i .given .1)) ∙ c .before .before .before .before .before .before .number-at .ensures) .0)
+
+returns-3 : tie.Need-returns-3
+returns-3 c =
+    λ before k m e. not-refused (sym (ap numberParsed (c .enum-told2 .given .1)) ∙ c .before .before .number-at .ensures)
+    (child-id _ _ (sym (ap byteParsed (c .before .before .before .before .b .given .1)) ∙ c .before .before .before .before .before .before .byte-at .ensures) before k m e .1)
+
+returns-4 : tie.Need-returns-4
+returns-4 c = λ before k m e. not-refused (sym (ap byteParsed (c .enum-told3 .given .1)) ∙ c .before .before .byte-at .ensures) (child-fields _ _ before e .2)
+
+pub link-at-spec : {M : Type 1} → statement M
+link-at-spec =
+    tie.close
+    (tie.spec
+    (λ c κs. search needs)
+    (λ c. search needs)
+    (λ c κs. search needs)
+    (λ c. search needs)
+    (λ c κs. search needs)
+    (λ c. search needs)
+    (λ c κs. search needs)
+    (λ c. search needs)
+    (λ c. search needs)
+    (λ c. search needs)
+    (λ c. search needs)
+    returns
+    returns-2
+    returns-3
+    returns-4)
