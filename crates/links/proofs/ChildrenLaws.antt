@@ -2,16 +2,15 @@
 use Prim.Native.Nat.{ℕ, zero, suc, _+_, _-_, _%_, _≤_, _<_}
 use mathlib.Core.Bool.{true}
 use mathlib.Core.List.{List, [], _∷_}
-use mathlib.Core.Path.{_≡_, refl, sym, _∙_, ap, subst}
+use mathlib.Core.Path.{_≡_, refl, sym, _∙_, ap}
 use native.Mathlib.Numerals.{add-one, sub-one}
 use native.Mathlib.Omega.{arith}
 use borrow.Author.Tests.{ltb-true}
-use lib.Dec.{ltb}
 use lib.ListN.{length, set, length-set, length-replicate}
 use lib.Seq.{set-set, set-comm}
 use Rattle.format.specs.Fields.{fieldAt}
 use Rattle.format.specs.NodeLayout.{childAt}
-use Rattle.format.specs.Parsed.{Parsed, done, rowAt}
+use Rattle.format.specs.Parsed.{done, rowAt}
 use Rattle.format.specs.Rules.{Every}
 use Rattle.format.specs.Tree.{Child, NodeInstance}
 use Rattle.format.proofs.ParsedLaws.{then-out, making-out, requiring-out}
@@ -85,9 +84,9 @@ unfolding linked
 linked-length nodes t at [] = refl
 linked-length nodes t at (k ∷ ks) = linked-length nodes (set t (at + k .bit) (childNumber nodes k)) at ks ∙ length-set t (at + k .bit) (childNumber nodes k)
 
-pub row-length : (nodes : List ℕ) (i : NodeInstance) → length (childRow nodes i) ≡ 64
+pub child-row-length : (nodes : List ℕ) (i : NodeInstance) → length (childRow nodes i) ≡ 64
 unfolding childRow
-row-length nodes i = linked-length nodes (childless 64) 0 (i .children) ∙ childless-length 64
+child-row-length nodes i = linked-length nodes (childless 64) 0 (i .children) ∙ childless-length 64
 
 pub link-next : (nodes t : List ℕ) (at : ℕ) (k : Child) (m : ℕ) {l : Link} {u : List ℕ} → l ≡ linkOf nodes k m → u ≡ set t (at + l .bit) (l .number)
     → (l .next ≡ m) × ((ks : List Child) → linked nodes u at ks ≡ linked nodes t at (k ∷ ks))
@@ -136,4 +135,4 @@ row-put nodes t k i b g h =
 
 pub row-written : (nodes t : List ℕ) (k : ℕ) (i : NodeInstance) {u : List ℕ} → u ≡ written t k (childRow nodes i)
     → (u ≡ written t k (childRow nodes i)) × (k + 64 ≡ k + length (childRow nodes i))
-row-written nodes t k i e = (e, ap (λ n. k + n) (sym (row-length nodes i)))
+row-written nodes t k i e = (e, ap (λ n. k + n) (sym (child-row-length nodes i)))

@@ -4,3 +4,4 @@ pub mod PassedLaws
 pub mod LinksLaws
 pub mod WritingLaws
 pub mod ChildrenLaws
+pub mod TableLaws

@@ -11,7 +11,7 @@ use Rattle.format.specs.ExpressionLayout.{exprAt}
 use Rattle.format.specs.Limits.{levels}
 use Rattle.format.specs.Lookup.{some}
 use Rattle.format.specs.NodeLayout.{ruleAt, nodeInstanceAt}
-use Rattle.format.specs.Parsed.{done, refused, rowAt}
+use Rattle.format.specs.Parsed.{done, rowAt}
 use Rattle.format.specs.Rules.{Every}
 use Rattle.format.specs.Tree.{Rule, NodeInstance}
 use Rattle.format.proofs.ParsedLaws.{require-out}

@@ -9,7 +9,7 @@ use Rattle.format.specs.Tree.{NodeInstance}
 use Rattle.format.proofs.ParsedLaws.{never}
 use Rattle.fields.specs.Views.{forget}
 use Rattle.index.proofs.Again.{done-out, same-done}
-use Rattle.index.proofs.PartsLaws.{Parts, instance-parts}
+use Rattle.index.proofs.PartsLaws.{instance-parts}
 
 -- What is passed over was read.
 module _ {A : Type 0} {p : Parsed A} {a : A} {m : ℕ} (e : p ≡ done a m) where

@@ -1,7 +1,7 @@
 -- Going through elements in a row, one after another.
 use Prim.Native.Nat.{ℕ, _-_, _≤_, _<_}
 use mathlib.Core.List.{List, [], _∷_}
-use mathlib.Core.Path.{_≡_, refl, sym, _∙_, ap}
+use mathlib.Core.Path.{_≡_, refl, _∙_, ap}
 use Rattle.format.specs.Parsed.{Parsed, done, rowAt}
 use Rattle.index.proofs.FillingLaws.{row-first, row-nothing}
 

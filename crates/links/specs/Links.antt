@@ -1,9 +1,11 @@
 -- What node instances lead to: the rule of each for an attention type, and the children of each.
-use Prim.Native.Nat.{ℕ, _+_, _%_}
+use Prim.Native.Nat.{ℕ, _+_, _%_, _<_}
 use mathlib.Core.Bool.{cond}
-use mathlib.Core.List.{List, [], _∷_}
+use mathlib.Core.List.{List, [], _∷_, map}
+use mathlib.Core.Option.{Option, none, some}
 use lib.Dec.{eqb}
 use lib.ListN.{set, replicate}
+use Rattle.format.specs.Rules.{Every, Distinct}
 use Rattle.format.specs.Tree.{Rule, Child, NodeInstance}
 use Rattle.tables.specs.Faults.{positionIn}
 use Rattle.links.specs.declared.Link.{Link}
@@ -33,3 +35,13 @@ childRow nodes i = linked nodes (childless 64) 0 (i .children)
 -- What is kept of a child, with the place after it.
 abbrev pub linkOf : List ℕ → Child → ℕ → Link
 linkOf nodes k next = record { bit = k .bit; number = childNumber nodes k; next = next }
+
+-- The position of the node instance that a child names, if there is a child.
+unfoldable pub childIn : List ℕ → List Child → Option ℕ
+childIn nodes [] = none
+childIn nodes (k ∷ ks) = some (positionIn nodes (k .id) (k .number))
+
+-- A node instance has one child for a bit at most, and each names one of so many node instances.
+pub record ChildrenFit (nodes : List ℕ) (size : ℕ) (i : NodeInstance) : Type 0 where
+  pub unique : Distinct (map (λ k. k .bit) (i .children))
+  pub present : Every (λ k. positionIn nodes (k .id) (k .number) < size) (i .children)
