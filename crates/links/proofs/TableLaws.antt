@@ -34,7 +34,7 @@ at-there i [] h = absurd (omega arith)
 at-there zero (x ∷ xs) h = (x, at-first x xs)
 at-there (suc i) (x ∷ xs) h = let r = at-there i xs (omega arith) in (r .0, at-next i x xs ∙ r .1)
 
-at-most : {A : Type 0} (i : ℕ) (xs : List A) → (at i xs ≡ []) ⊎ ((x : A) × (at i xs ≡ x ∷ []))
+pub at-most : {A : Type 0} (i : ℕ) (xs : List A) → (at i xs ≡ []) ⊎ ((x : A) × (at i xs ≡ x ∷ []))
 at-most i [] = inl (at-none i)
 at-most zero (x ∷ xs) = inr (x, at-first x xs)
 at-most (suc i) (x ∷ xs) = ⊎-elim (λ e. inl (at-next i x xs ∙ e)) (λ r. inr (r .0, at-next i x xs ∙ r .1)) (at-most i xs)

@@ -21,7 +21,7 @@ use Rattle.tables.specs.Tables.{written}
 use Rattle.tables.specs.Faults.{judgedAt}
 use Rattle.tables.proofs.TablesLaws.{written-front}
 use Rattle.tables.proofs.FaultsLaws.{judged-stop, judged-on}
-use Rattle.index.specs.Rows.{Rows, filled, registerRow, nodeRow}
+use Rattle.index.specs.Rows.{Rows, filled, rowOf, registerRow, nodeRow}
 use Rattle.index.specs.Columns.{registerKeys, registerKinds, registerPlaces, nodeKeys, nodeWanted, nodePlaces, TablesOf}
 use Rattle.index.proofs.Again.{same-done}
 use Rattle.index.proofs.ElementLaws.{map-map}
@@ -54,25 +54,58 @@ module _ (c : Chip) (end : ℕ) {y : Parsed (Unit {0})} (names : y ≡ judgedAt 
       let h : z ≡ judgedAt (cycleFaults c) end = f (g .0) ∙ ap (judgedAt (cycleFaults c)) (sym (g .1)) in
       h ∙ ap (λ r. judgedAt (r ++ cycleFaults c) end) (sym (g .0))
 
--- A file whose layout was read, and its tables.
-module _ (s : List ℕ) (bytes : Bytes s) {l : Summary} {end : ℕ} (c : Chip) (layout : done l end ≡ layoutAt s 0) (file : fileAt s true 0 ≡ done c end) where
-  pub record Laid : Type 0 where
-    pub registers : registersAt s true (l .registersPlace) ≡ done (c .registers) (l .nodesPlace)
-    pub nodes : nodesAt s true (l .nodesPlace) ≡ done (c .nodes) (l .rootsPlace)
-    pub roots : rootsAt s true (l .rootsPlace) ≡ done (c .roots) end
-    pub registerCount : l .registerInstances ≡ length (registerEntries c)
-    pub nodeCount : l .nodeInstances ≡ length (nodeEntries c)
-    pub registerRoom : length (registerEntries c) ≤ 1024
-    pub nodeRoom : length (nodeEntries c) ≤ 256
+-- A file whose layout was read: its sections stand where the layout says, and there is room for its instances.
+pub record Laid (s : List ℕ) (l : Summary) (end : ℕ) (c : Chip) : Type 0 where
+  pub registers : registersAt s true (l .registersPlace) ≡ done (c .registers) (l .nodesPlace)
+  pub nodes : nodesAt s true (l .nodesPlace) ≡ done (c .nodes) (l .rootsPlace)
+  pub roots : rootsAt s true (l .rootsPlace) ≡ done (c .roots) end
+  pub registerCount : l .registerInstances ≡ length (registerEntries c)
+  pub nodeCount : l .nodeInstances ≡ length (nodeEntries c)
+  pub registerRoom : length (registerEntries c) ≤ 1024
+  pub nodeRoom : length (nodeEntries c) ≤ 256
 
-  pub laid : Laid
+module _ (s : List ℕ) (bytes : Bytes s) {l : Summary} {end : ℕ} where
+  laid-here : (z : Sections s 0 l end) → Laid s l end (z .chip)
   unfolding registerEntries nodeEntries registerLimit nodeLimit
-  laid =
+  laid-here z =
+      let m = layout-meets s bytes (z .file) in
+      record {
+        registers = z .registers;
+        nodes = z .nodes;
+        roots = z .roots;
+        registerCount = ap (λ x. x .registerInstances) (z .summed) ∙ sym (register-count (z .chip .registers));
+        nodeCount = ap (λ x. x .nodeInstances) (z .summed) ∙ sym (node-count (z .chip .nodes));
+        registerRoom = m .limits .registers;
+        nodeRoom = m .limits .nodes;
+      }
+
+  pub laid : (c : Chip) → done l end ≡ layoutAt s 0 → fileAt s true 0 ≡ done c end → Laid s l end c
+  laid c layout file =
       let z = sections s 0 (sym layout) in
-      let w : z .chip ≡ c = same-done (sym (z .file)) file .0 in
-      let m = layout-meets s bytes file in
-      subst (λ (x : Chip). (registersAt s true (l .registersPlace) ≡ done (x .registers) (l .nodesPlace)) → Laid) w
-      (λ r. record {
-        registers = ap (λ (x : Chip). done (x .registers) (l .nodesPlace)) w ∙ refl;
-      })
-      (z .registers)
+      subst (Laid s l end) (same-done (sym (z .file)) file .0) (laid-here z)
+
+-- The tables of a file, filled from the front.
+module _ (c : Chip) (m n : ℕ) (registers : m ≡ length (registerEntries c)) (nodes : n ≡ length (nodeEntries c)) (few : length (registerEntries c) ≤ 1024) (fewer : length (nodeEntries c) ≤ 256) where
+  column : {E : Type 0} (es : List E) (f : E → ℕ) (k size : ℕ) → k ≡ length es → length es ≤ size → {t : List ℕ} → t ≡ written (replicate size 0) 0 (map f es) → take k t ≡ map f es
+  column es f k size e h d =
+      let i : k ≡ length (map f es) = e ∙ sym (length-map es f) in
+      let j : length (map f es) ≤ length (replicate {A = ℕ} size 0) = rw (length-map es f, length-replicate {A = ℕ} size 0) h in
+      ap (take k) d ∙ front (replicate size 0) (map f es) k i j
+
+  pub tables-are : {keys kinds spots nodeKeys′ wanted places : List ℕ}
+      → _≡_ {A = Rows} (record { keys = keys; kinds = kinds; places = spots }) (filled (record { keys = replicate 1024 0; kinds = replicate 1024 0; places = replicate 1024 0 }) 0 (map registerRow (registerEntries c)))
+      → _≡_ {A = Rows} (record { keys = nodeKeys′; kinds = wanted; places = places }) (filled (record { keys = replicate 256 0; kinds = replicate 256 0; places = replicate 256 0 }) 0 (map nodeRow (nodeEntries c)))
+      → TablesOf c (take m keys) (take m kinds) (take n nodeKeys′) (take n wanted) (take n places)
+  unfolding registerRow nodeRow rowOf
+  tables-are r q =
+      let a = r ∙ filled-columns _ 0 (map registerRow (registerEntries c)) in
+      let b = q ∙ filled-columns _ 0 (map nodeRow (nodeEntries c)) in
+      let es = registerEntries c in
+      let ns = nodeEntries c in
+      record {
+        keys-are = column es _ m 1024 registers few (ap (λ t. t .keys) a ∙ ap (written (replicate 1024 0) 0) (map-map (λ r. r .key) registerRow es));
+        kinds-are = column es _ m 1024 registers few (ap (λ t. t .kinds) a ∙ ap (written (replicate 1024 0) 0) (map-map (λ r. r .kind) registerRow es));
+        nodes-are = column ns _ n 256 nodes fewer (ap (λ t. t .keys) b ∙ ap (written (replicate 256 0) 0) (map-map (λ r. r .key) nodeRow ns));
+        wanted-are = column ns _ n 256 nodes fewer (ap (λ t. t .kinds) b ∙ ap (written (replicate 256 0) 0) (map-map (λ r. r .kind) nodeRow ns));
+        places-are = column ns _ n 256 nodes fewer (ap (λ t. t .places) b ∙ ap (written (replicate 256 0) 0) (map-map (λ r. r .place) nodeRow ns));
+      }

@@ -3,3 +3,5 @@ pub mod RootLaws
 pub mod LayoutLaws
 pub mod WholeLaws
 pub mod NameLaws
+pub mod FaultsLaws
+pub mod CycleLaws

@@ -12,6 +12,7 @@ use Rattle.format.specs.FileLayout.{startAt, rootsAt}
 use Rattle.format.specs.Tree.{Register, Node, Root, Chip}
 use Rattle.format.specs.Refusals.{CheckValues, acceptedWith}
 use Rattle.format.specs.Lookup.{registerEntries, nodeEntries}
+use Rattle.reader.specs.declared.Layout.{Layout}
 use Rattle.reader.specs.declared.LayoutRead
 use Rattle.reader.specs.declared.LayoutRead.{LayoutRead}
 use Rattle.fields.specs.Views.{refusedBy}
@@ -28,9 +29,12 @@ pub record Summary : Type 0 where
   pub nodesPlace : ℕ
   pub rootsPlace : ℕ
 
+abbrev pub laidOut : Layout → Summary
+laidOut l =
+    record { model = l .model; registers = l .registers; registerInstances = l .«register_instances»; nodes = l .nodes; nodeInstances = l .«node_instances»; roots = l .roots; registersPlace = l .«registers_at»; nodesPlace = l .«nodes_at»; rootsPlace = l .«roots_at» }
+
 abbrev pub layoutParsed : LayoutRead → Parsed Summary
-layoutParsed (LayoutRead.Done l) =
-    done (record { model = l .model; registers = l .registers; registerInstances = l .«register_instances»; nodes = l .nodes; nodeInstances = l .«node_instances»; roots = l .roots; registersPlace = l .«registers_at»; nodesPlace = l .«nodes_at»; rootsPlace = l .«roots_at» }) (l .end)
+layoutParsed (LayoutRead.Done l) = done (laidOut l) (l .end)
 layoutParsed (LayoutRead.Refused r) = refusedBy r
 
 abbrev pub summary : ℕ → List Register → List Node → List Root → ℕ → ℕ → ℕ → Summary

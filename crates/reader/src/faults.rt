@@ -21,8 +21,7 @@ ghost use Rattle.format.specs.Tree.{Chip};
 ghost use Rattle.fields.specs.Views.{nextParsed};
 ghost use Rattle.tables.specs.Faults.{judgedAt};
 ghost use Rattle.index.specs.Columns.{nodeKeys, nodePlaces, TablesOf};
-ghost use Rattle.reader.specs.declared.LayoutRead;
-ghost use Rattle.reader.specs.Layout.{layoutParsed, layoutAt};
+ghost use Rattle.reader.specs.Layout.{laidOut, layoutAt};
 
 // The first fault of 12 and 13, by the file's tables; where there is none, the place after the roots section.
 fn name_faults(
@@ -81,7 +80,7 @@ fn table_faults(
 
 // The first fault of 12 to 14 of a file whose layout was read; where there is none, the place after the roots section. It reads the file once to fill its tables, and once to look up its names.
 pub fn faults(s: &[u8], l: Layout) -> NextRead
-    ensures { λ r. ⌜ ((c : Chip) → layoutParsed (LayoutRead.Done l) ≡ layoutAt (now (s .entry)) 0 → fileAt (now (s .entry)) true 0 ≡ done c (l .end) → nextParsed r ≡ judgedAt (referenceFaults c ++ cycleFaults c) (l .end)) ⌝ }
+    ensures { λ r. ⌜ ((c : Chip) → done (laidOut l) (l .end) ≡ layoutAt (now (s .entry)) 0 → fileAt (now (s .entry)) true 0 ≡ done c (l .end) → nextParsed r ≡ judgedAt (referenceFaults c ++ cycleFaults c) (l .end)) ⌝ }
 {
     let m = l.register_instances;
     let n = l.node_instances;
