@@ -5,3 +5,4 @@ pub mod WholeLaws
 pub mod NameLaws
 pub mod FaultsLaws
 pub mod CycleLaws
+pub mod ExamineLaws

@@ -1,9 +1,11 @@
 // The layout of a whole file.
 use crate::Layout;
 use crate::LayoutRead;
+use crate::faults::faults;
 use crate::roots::roots_at;
 use crate::roots::start_at;
 use fields::ByteRead;
+use fields::NextRead;
 use fields::NumberRead;
 use fields::SectionRead;
 use format::Kind;
@@ -11,7 +13,11 @@ use format::Refusal;
 use nodes::nodes_at;
 use registers::registers_at;
 ghost use mathlib.Core.Path.{_≡_};
-ghost use Rattle.reader.specs.Layout.{layoutParsed, layoutAt, wholeAt};
+ghost use Rattle.format.specs.Parsed.{making};
+ghost use Rattle.format.specs.Verdict.{verdict};
+ghost use Rattle.reader.specs.declared.Layout.{Layout};
+ghost use Rattle.reader.specs.declared.LayoutRead.{LayoutRead};
+ghost use Rattle.reader.specs.Layout.{layoutParsed, layoutAt, wholeAt, layoutValues, chipValues};
 
 // The layout of a file that starts at the slice's first byte. It reads each byte of the file at most once; number 7 costs a look at the IDs before each register and node.
 pub fn layout(s: &[u8]) -> LayoutRead
@@ -74,6 +80,24 @@ pub fn whole(s: &[u8]) -> LayoutRead
                 });
             }
             LayoutRead::Done(l)
+        }
+        LayoutRead::Refused(r) => LayoutRead::Refused(r),
+    }
+}
+
+// The layout of a file that is accepted, or the refusal that the rules name first.
+pub fn examine(s: &[u8]) -> LayoutRead
+    ensures { λ r. ⌜ making layoutValues (layoutParsed r) ≡ making chipValues (verdict (now (s .entry))) ⌝ }
+    ensures { λ r. ⌜ ((l : Layout) → r ≡ LayoutRead.Done l → layoutParsed r ≡ layoutAt (now (s .entry)) 0) ⌝ }
+{
+    let w = whole(s);
+    match w {
+        LayoutRead::Done(l) => {
+            let f = faults(s, l);
+            match f {
+                NextRead::Next(_) => LayoutRead::Done(l),
+                NextRead::Refused(r) => LayoutRead::Refused(r),
+            }
         }
         LayoutRead::Refused(r) => LayoutRead::Refused(r),
     }
