@@ -85,27 +85,33 @@ module _ (s : List ℕ) (bytes : Bytes s) {l : Summary} {end : ℕ} where
       subst (Laid s l end) (same-done (sym (z .file)) file .0) (laid-here z)
 
 -- The tables of a file, filled from the front.
-module _ (c : Chip) (m n : ℕ) (registers : m ≡ length (registerEntries c)) (nodes : n ≡ length (nodeEntries c)) (few : length (registerEntries c) ≤ 1024) (fewer : length (nodeEntries c) ≤ 256) where
-  column : {E : Type 0} (es : List E) (f : E → ℕ) (k size : ℕ) → k ≡ length es → length es ≤ size → {t : List ℕ} → t ≡ written (replicate size 0) 0 (map f es) → take k t ≡ map f es
-  column es f k size e h d =
-      let i : k ≡ length (map f es) = e ∙ sym (length-map es f) in
-      let j : length (map f es) ≤ length (replicate {A = ℕ} size 0) = rw (length-map es f, length-replicate {A = ℕ} size 0) h in
-      ap (take k) d ∙ front (replicate size 0) (map f es) k i j
+column : {E : Type 0} (es : List E) (f : E → ℕ) (k size : ℕ) → k ≡ length es → length es ≤ size → {t : List ℕ} → t ≡ written (replicate size 0) 0 (map f es) → take k t ≡ map f es
+column es f k size e h d =
+    let i : k ≡ length (map f es) = e ∙ sym (length-map es f) in
+    let j : length (map f es) ≤ length (replicate {A = ℕ} size 0) = rw (length-map es f, length-replicate {A = ℕ} size 0) h in
+    ap (take k) d ∙ front (replicate size 0) (map f es) k i j
 
-  pub tables-are : {keys kinds spots nodeKeys′ wanted places : List ℕ}
+module _ (c : Chip) where
+  pub register-tables : (m : ℕ) → m ≡ length (registerEntries c) → length (registerEntries c) ≤ 1024 → {keys kinds spots : List ℕ}
       → _≡_ {A = Rows} (record { keys = keys; kinds = kinds; places = spots }) (filled (record { keys = replicate 1024 0; kinds = replicate 1024 0; places = replicate 1024 0 }) 0 (map registerRow (registerEntries c)))
-      → _≡_ {A = Rows} (record { keys = nodeKeys′; kinds = wanted; places = places }) (filled (record { keys = replicate 256 0; kinds = replicate 256 0; places = replicate 256 0 }) 0 (map nodeRow (nodeEntries c)))
-      → TablesOf c (take m keys) (take m kinds) (take n nodeKeys′) (take n wanted) (take n places)
-  unfolding registerRow nodeRow rowOf
-  tables-are r q =
-      let a = r ∙ filled-columns _ 0 (map registerRow (registerEntries c)) in
-      let b = q ∙ filled-columns _ 0 (map nodeRow (nodeEntries c)) in
+      → (take m keys ≡ registerKeys c) × (take m kinds ≡ registerKinds c) × (take m spots ≡ registerPlaces c)
+  unfolding registerRow rowOf
+  register-tables m e h r =
       let es = registerEntries c in
-      let ns = nodeEntries c in
-      record {
-        keys-are = column es _ m 1024 registers few (ap (λ t. t .keys) a ∙ ap (written (replicate 1024 0) 0) (map-map (λ r. r .key) registerRow es));
-        kinds-are = column es _ m 1024 registers few (ap (λ t. t .kinds) a ∙ ap (written (replicate 1024 0) 0) (map-map (λ r. r .kind) registerRow es));
-        nodes-are = column ns _ n 256 nodes fewer (ap (λ t. t .keys) b ∙ ap (written (replicate 256 0) 0) (map-map (λ r. r .key) nodeRow ns));
-        wanted-are = column ns _ n 256 nodes fewer (ap (λ t. t .kinds) b ∙ ap (written (replicate 256 0) 0) (map-map (λ r. r .kind) nodeRow ns));
-        places-are = column ns _ n 256 nodes fewer (ap (λ t. t .places) b ∙ ap (written (replicate 256 0) 0) (map-map (λ r. r .place) nodeRow ns));
-      }
+      let a = r ∙ filled-columns _ 0 (map registerRow es) in (
+        column es _ m 1024 e h (ap (λ t. t .keys) a ∙ ap (written (replicate 1024 0) 0) (map-map (λ r. r .key) registerRow es)),
+        column es _ m 1024 e h (ap (λ t. t .kinds) a ∙ ap (written (replicate 1024 0) 0) (map-map (λ r. r .kind) registerRow es)),
+        column es _ m 1024 e h (ap (λ t. t .places) a ∙ ap (written (replicate 1024 0) 0) (map-map (λ r. r .place) registerRow es)),
+      )
+
+  pub node-tables : (n : ℕ) → n ≡ length (nodeEntries c) → length (nodeEntries c) ≤ 256 → {nodes wanted places : List ℕ}
+      → _≡_ {A = Rows} (record { keys = nodes; kinds = wanted; places = places }) (filled (record { keys = replicate 256 0; kinds = replicate 256 0; places = replicate 256 0 }) 0 (map nodeRow (nodeEntries c)))
+      → (take n nodes ≡ nodeKeys c) × (take n wanted ≡ nodeWanted c) × (take n places ≡ nodePlaces c)
+  unfolding nodeRow rowOf
+  node-tables n e h r =
+      let es = nodeEntries c in
+      let a = r ∙ filled-columns _ 0 (map nodeRow es) in (
+        column es _ n 256 e h (ap (λ t. t .keys) a ∙ ap (written (replicate 256 0) 0) (map-map (λ r. r .key) nodeRow es)),
+        column es _ n 256 e h (ap (λ t. t .kinds) a ∙ ap (written (replicate 256 0) 0) (map-map (λ r. r .kind) nodeRow es)),
+        column es _ n 256 e h (ap (λ t. t .places) a ∙ ap (written (replicate 256 0) 0) (map-map (λ r. r .place) nodeRow es)),
+      )

@@ -6,3 +6,4 @@ pub mod NameLaws
 pub mod FaultsLaws
 pub mod CycleLaws
 pub mod ExamineLaws
+pub mod AddressLaws

@@ -1,8 +1,15 @@
 // The reader of chip data files.
+use crate::file::examine;
+use format::Checked;
 use format::Refusal;
+use format::Summary;
+ghost use mathlib.Core.Path.{_≡_};
+ghost use Rattle.format.specs.Refusals.{checkedValues};
+ghost use Rattle.format.specs.Verdict.{check};
 
+pub mod address;
 mod faults;
-pub mod file;
+mod file;
 mod roots;
 
 // Where a file's sections begin, and what it holds.
@@ -23,4 +30,22 @@ pub struct Layout {
 pub enum LayoutRead {
     Done(Layout),
     Refused(Refusal),
+}
+
+// The checker: what an accepted file holds, or the refusal that the rules name first. It reads the file three times: its layout, its tables, and its names.
+pub fn check(file: &[u8]) -> Checked
+    ensures { λ r. ⌜ checkedValues r ≡ check (now (file .entry)) ⌝ }
+{
+    let e = examine(file);
+    match e {
+        LayoutRead::Done(l) => Checked::Accepted(Summary {
+            model: l.model,
+            registers: l.registers,
+            register_instances: l.register_instances,
+            nodes: l.nodes,
+            node_instances: l.node_instances,
+            roots: l.roots,
+        }),
+        LayoutRead::Refused(r) => Checked::Refused(r),
+    }
 }

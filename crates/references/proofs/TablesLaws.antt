@@ -29,7 +29,7 @@ same-bool false true f g = clash (g refl) refl
 same-bool false false f g = refl
 
 module _ (c : Chip) (fit : FieldsFit c) where
-  registers-fit : Every (λ e. (e .id < 256 ^ 3) × (e .flags < 256)) (registerEntries c)
+  pub registers-fit : Every (λ e. (e .id < 256 ^ 3) × (e .flags < 256)) (registerEntries c)
   unfolding registerEntries entriesOf
   registers-fit =
       every-gathered-in _ entriesOf (c .registers)

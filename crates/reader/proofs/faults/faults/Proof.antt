@@ -5,7 +5,7 @@ use lib.ListN.{length}
 use lib.Seq.{length-take-le}
 use borrow.Author.Needs.{needs}
 use Rattle.format.specs.Lookup.{registerEntries, nodeEntries}
-use Rattle.reader.proofs.FaultsLaws.{laid, tables-are}
+use Rattle.reader.proofs.FaultsLaws.{laid, register-tables, node-tables}
 use Rattle.reader.proofs.faults.faults.Statement.{statement}
 use Rattle.reader.proofs.faults.faults.Tie as tie
 
@@ -61,10 +61,9 @@ unfolding registerEntries nodeEntries
 returns-3 c =
     λ chip layout file.
     let d = laid _ (λ i. c .before .before .before .before .before .before .before .before .before .before .before .before .before .before .before .before .before .before .before .before .before .before .shared-slice-known .given i .fits) chip layout file in
-    c .table-faults .ensures chip _ file (d .roots)
-    (tables-are chip _ _ (d .registerCount) (d .nodeCount) (d .registerRoom) (d .nodeRoom)
-    (c .before .before .before .before .before .before .before .before .before .before .before .before .before .before .before .before .fill-registers .ensures _ _ (d .registers))
-    (c .before .before .before .before .before .before .before .before .before .fill-nodes .ensures _ _ (d .nodes)))
+    let r = register-tables chip _ (d .registerCount) (d .registerRoom) (c .before .before .before .before .before .before .before .before .before .before .before .before .before .before .before .before .fill-registers .ensures _ _ (d .registers)) in
+    let n = node-tables chip _ (d .nodeCount) (d .nodeRoom) (c .before .before .before .before .before .before .before .before .before .fill-nodes .ensures _ _ (d .nodes)) in
+    c .table-faults .ensures chip _ file (d .roots) (record { keys-are = r .0; kinds-are = r .1; nodes-are = n .0; wanted-are = n .1; places-are = n .2 })
 
 pub faults-spec : {M : Type 1} → statement M
 faults-spec =
