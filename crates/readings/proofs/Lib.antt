@@ -1,0 +1,2 @@
+-- The laws of the readings file.
+pub mod RecordLaws
