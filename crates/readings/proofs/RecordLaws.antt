@@ -1,5 +1,5 @@
 -- The laws of a record at a place, of records one after another, and of decoding.
-use Prim.Native.Nat.{ℕ, zero, suc, _+_, _*_, _/_, _%_, _≤_, _<_}
+use Prim.Native.Nat.{ℕ, suc, _+_, _*_, _/_, _%_, _≤_, _<_}
 use mathlib.Core.Bool.{Bool, true, false, _&&_, _||_}
 use mathlib.Core.List.{List, [], _∷_}
 use mathlib.Core.Path.{_≡_, refl, sym, _∙_, ap}
@@ -8,7 +8,7 @@ use native.Mathlib.Numerals.{add-one}
 use native.Mathlib.Omega.{arith}
 use borrow.Author.Tests.{eq-eqb, ne-eqb, eqb-true, le-leb, lt-leb}
 use lib.Dec.{eqb, leb}
-use lib.ListN.{length, take, drop, getD, set, length-set, drop-of-length-le}
+use lib.ListN.{length, drop, getD, set, length-set, drop-of-length-le}
 use lib.Seq.{drop-cons, drop-drop}
 use Rattle.numbers.specs.declared.NumberRead
 use Rattle.numbers.specs.declared.NumberRead.{NumberRead}
@@ -139,13 +139,15 @@ each-length want (k ∷ keys) bytes = ap suc (each-length want keys (drop 16 byt
 
 -- The size of a file.
 module _ (keys bytes : List ℕ) where
-  pub size-odd : (length bytes % 16 ≡ 0 → ⊥) → false ≡ fileFits keys bytes
+  size-wrong : (length bytes ≡ 16 * length keys → ⊥) → false ≡ fileFits keys bytes
   unfolding fileFits
-  size-odd n = rw (ne-eqb (length bytes) (16 * length keys) (λ e. n (let d : length bytes ≡ 16 * length keys = e in omega arith)))
+  size-wrong n = rw (ne-eqb (length bytes) (16 * length keys) n)
+
+  pub size-odd : (length bytes % 16 ≡ 0 → ⊥) → false ≡ fileFits keys bytes
+  size-odd n = size-wrong (λ e. n (let d : length bytes ≡ 16 * length keys = e in omega arith))
 
   pub size-other : (length bytes / 16 ≡ length keys → ⊥) → false ≡ fileFits keys bytes
-  unfolding fileFits
-  size-other n = rw (ne-eqb (length bytes) (16 * length keys) (λ e. n (let d : length bytes ≡ 16 * length keys = e in omega arith)))
+  size-other n = size-wrong (λ e. n (let d : length bytes ≡ 16 * length keys = e in omega arith))
 
   pub size-right : length bytes % 16 ≡ 0 → length bytes / 16 ≡ length keys → {t : Bool} → t ≡ recordsFit keys bytes → t ≡ fileFits keys bytes
   unfolding fileFits

@@ -11,7 +11,7 @@ use Rattle.numbers.specs.Field.{field}
 use Rattle.format.specs.Lookup.{RegisterEntry, registerEntries, some}
 use Rattle.format.specs.Tree.{Chip}
 
--- "Records of one fixed size: 16 bytes each."
+-- "Records of one fixed size, no header: 16 bytes each".
 abbrev pub recordSize : ℕ
 recordSize = 16
 

@@ -7,7 +7,7 @@ ghost use mathlib.Core.Path.{_≡_};
 ghost use lib.ListN.{length, drop};
 ghost use Rattle.numbers.specs.Field.{sizeOf, field};
 ghost use Rattle.tables.specs.Tables.{written};
-ghost use Rattle.readings.specs.ReadingsFile.{readByte, valueIn, recordFits, recordsFit, fileFits, wordsOf, readOf, decodes, lentAfter};
+ghost use Rattle.readings.specs.ReadingsFile.{recordFits, recordsFit, fileFits, wordsOf, readOf, decodes, lentAfter};
 
 // The number at a place where it is wholly there.
 fn value_at(s: &[u8], at: usize, w: Width) -> u64
