@@ -1,0 +1,2 @@
+-- The readings file.
+pub mod ReadingsFile
