@@ -438,7 +438,8 @@ impl<'a> Chip<'a> {
             self.children.push(Child { at, bit, node });
         }
 
-        self.node_names.insert(name(u32::from(id), number), position);
+        self.node_names
+            .insert(name(u32::from(id), number), position);
         self.node_instances.push(NodeInstance {
             at,
             id,
@@ -559,8 +560,8 @@ impl<'a> Chip<'a> {
         }
         let mut free = [0u16; MAX_NODE_INSTANCES];
         let mut found = 0;
-        for position in 0..count {
-            if parents[position] == 0 {
+        for (position, &number) in parents[..count].iter().enumerate() {
+            if number == 0 {
                 free[found] = position as u16;
                 found += 1;
             }

@@ -40,46 +40,60 @@ fn register_name(position: usize, in_a_register: usize) -> [u8; 4] {
     [a, b, c, (position % in_a_register) as u8]
 }
 
-/// Nodes of type 1 with IDs from 1 up and one instance each: instance number,
-/// captures, one rule with this expression, children of these bits and
-/// positions.
+/// What a node instance has beside its number, 0. Names of captured registers,
+/// its one rule, and bits and positions of its children.
+struct Instance {
+    captures: Vec<[u8; 4]>,
+    rule: Vec<u8>,
+    children: Vec<(u8, usize)>,
+}
+
+/// Nodes of type 1 with IDs from 1 up and one instance each.
 struct Nodes {
-    instances: Vec<(Vec<[u8; 4]>, Vec<u8>, Vec<(u8, usize)>)>,
+    instances: Vec<Instance>,
 }
 
 impl Nodes {
-    /// `count` instances, each with one expression of a register.
+    /// `count` instances, each with a register as its rule.
     fn plain(count: usize, register: impl Fn(usize) -> [u8; 4]) -> Self {
-        let expression = |position| {
-            let mut expression = vec![EXPRESSION_REGISTER];
-            expression.extend(register(position));
-            expression
+        let instance = |position| {
+            let mut rule = vec![EXPRESSION_REGISTER];
+            rule.extend(register(position));
+            Instance {
+                captures: Vec::new(),
+                rule,
+                children: Vec::new(),
+            }
         };
         Nodes {
-            instances: (0..count)
-                .map(|position| (Vec::new(), expression(position), Vec::new()))
-                .collect(),
+            instances: (0..count).map(instance).collect(),
         }
     }
 
+    /// The bytes of all nodes.
     fn bytes(&self) -> usize {
-        self.instances
-            .iter()
-            .map(|(captures, rule, children)| 9 + 4 * captures.len() + rule.len() + 4 * children.len())
+        let instances = self.instances.iter();
+        instances
+            .map(|instance| {
+                let names = instance.captures.len() + instance.children.len();
+                9 + 4 * names + instance.rule.len()
+            })
             .sum()
     }
 
     fn write(&self, mut file: Vec<u8>) -> Vec<u8> {
         file.extend(b"NODE");
         file.extend((self.instances.len() as u16).to_be_bytes());
-        for (position, (captures, rule, children)) in self.instances.iter().enumerate() {
+        for (position, instance) in self.instances.iter().enumerate() {
             file.extend((position as u16 + 1).to_be_bytes());
             file.extend([1, 1, 0]);
-            file.extend([captures.len() as u8, 1, children.len() as u8]);
-            file.extend(captures.concat());
+            file.push(instance.captures.len() as u8);
+            file.push(1);
+            file.push(instance.children.len() as u8);
+            file.extend(instance.captures.concat());
             file.push(ATTENTION_TYPE);
-            file.extend(rule);
-            for &(bit, child) in children {
+            file.extend(&instance.rule);
+            for &(bit, child) in &instance.children {
                 file.push(bit);
                 file.extend((child as u16 + 1).to_be_bytes());
                 file.push(0);
@@ -112,10 +126,12 @@ pub fn captures(more: usize) -> Vec<u8> {
     let room = MAX_FILE_BYTES + more - file.len() - 6 - ROOTS.len() - nodes.bytes();
     for capture in 0..room / 4 {
         let register = register_name(capture * 7 % MAX_REGISTER_INSTANCES, 128);
-        nodes.instances[capture % MAX_NODE_INSTANCES].0.push(register);
+        nodes.instances[capture % MAX_NODE_INSTANCES]
+            .captures
+            .push(register);
     }
     for _ in 0..room % 4 {
-        nodes.instances[0].1.insert(0, EXPRESSION_NOT);
+        nodes.instances[0].rule.insert(0, EXPRESSION_NOT);
     }
     nodes.write(file)
 }
@@ -126,7 +142,8 @@ pub fn deep_expressions() -> Vec<u8> {
     let file = start(MAX_REGISTER_INSTANCES, 128);
     let mut nodes = Nodes::plain(MAX_NODE_INSTANCES, |position| register_name(position, 128));
     let mut left = MAX_FILE_BYTES - file.len() - 6 - ROOTS.len() - nodes.bytes();
-    for (position, (_, rule, _)) in nodes.instances.iter_mut().enumerate() {
+    for (position, instance) in nodes.instances.iter_mut().enumerate() {
+        let rule = &mut instance.rule;
         let before = rule.len();
         let share = left / (MAX_NODE_INSTANCES - position);
         *rule = deep_rule(position, share + before);
@@ -167,7 +184,7 @@ pub fn children(children: usize, backward: bool) -> Vec<u8> {
     let last = MAX_NODE_INSTANCES - 1;
     let place = |rank: usize| if backward { last - rank } else { rank };
     for rank in 0..last {
-        let entries = &mut nodes.instances[place(rank)].2;
+        let entries = &mut nodes.instances[place(rank)].children;
         for bit in 0..children.min(last - rank) {
             entries.push((bit as u8, place(rank + 1 + bit)));
         }

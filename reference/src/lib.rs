@@ -16,6 +16,7 @@ pub mod readings;
 pub mod references;
 pub mod refusal;
 pub mod tree;
+pub mod vectors;
 
 pub use checker::{address, check, Accepted, Summary};
 pub use isolation::{isolate, isolate_with_readings_file};

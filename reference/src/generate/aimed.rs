@@ -137,7 +137,8 @@ fn unfit_readings(random: &mut Random, case: &mut Case) {
 /// A file for the number, made from the valid one of the map.
 fn aimed_file(random: &mut Random, number: u8, map: &FieldMap) -> Vec<u8> {
     let mut bytes = map.bytes.clone();
-    let field = |random: &mut Random, kinds: &[FieldKind]| any_field(random, map, &map.bytes, kinds);
+    let field =
+        |random: &mut Random, kinds: &[FieldKind]| any_field(random, map, &map.bytes, kinds);
     match number {
         refusal::FILE_TOO_LONG => {
             if random.one_in(8) {
@@ -357,7 +358,10 @@ fn too_many_instances(random: &mut Random) -> Vec<u8> {
         0 => bytes.truncate(first_over + random.below(2)),
         // It has the number before it.
         1 => {
-            let before = map.fields_of(kind).nth(limit - 1).map_or(0, |field| field.at);
+            let before = map
+                .fields_of(kind)
+                .nth(limit - 1)
+                .map_or(0, |field| field.at);
             bytes[first_over] = bytes[before];
         }
         _ => {}
