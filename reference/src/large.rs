@@ -195,6 +195,42 @@ pub fn children(children: usize, backward: bool) -> Vec<u8> {
     file
 }
 
+/// A file whose counts of one byte are as high as they may be: a register and a
+/// node of 255 instances each; the first node instance has 255 captures, five
+/// rules, one of them an OR of 255 registers, and 64 children; five roots.
+pub fn full_counts() -> Vec<u8> {
+    let mut file = start(255, 255);
+    file.extend(b"NODE\x00\x01\x00\x01\x01\xFF");
+    file.extend([0, 255, 5, 64]);
+    for capture in 0..255 {
+        file.extend(register_name(254 - capture, 255));
+    }
+    for attention_type in 1..=5 {
+        file.push(attention_type);
+        if attention_type == ATTENTION_TYPE {
+            file.extend([EXPRESSION_OR, 255]);
+            for operand in 0..254 {
+                file.push(EXPRESSION_REGISTER);
+                file.extend(register_name(operand, 255));
+            }
+        }
+        file.push(EXPRESSION_REGISTER);
+        file.extend(register_name(254, 255));
+    }
+    for bit in 0..64 {
+        file.extend([63 - bit, 0, 1, 191 + bit]);
+    }
+    for instance in 1..255 {
+        file.extend([instance as u8, 0, 1, 0, ATTENTION_TYPE, EXPRESSION_REGISTER]);
+        file.extend(register_name(instance, 255));
+    }
+    file.extend(b"ROOT\x05");
+    for attention_type in 1..=5 {
+        file.extend([attention_type, 0, 1, 0]);
+    }
+    file
+}
+
 /// As many children as 256 node instances may have in 65,536 bytes.
 pub const MOST_CHILDREN: usize = 60;
 
@@ -236,6 +272,22 @@ mod tests {
         let deep = deep_expressions();
         assert!((64_000..=65_536).contains(&deep.len()), "{}", deep.len());
         assert_eq!(counts(&deep), (1_024, 256));
+    }
+
+    #[test]
+    fn counts_are_full() {
+        let file = full_counts();
+        assert_eq!(counts(&file), (255, 255));
+        assert_eq!(check(&file).unwrap().roots, 5);
+        let words = [u64::MAX; 255];
+        let mut list = vec![0; 64 * 64 * 8];
+        let answer = isolate(&file, ATTENTION_TYPE, &words, &[1; 255], &mut list);
+        assert_eq!(answer, Ok((64 * 64, 65)));
+        // One operand of the OR, the first register, and one child.
+        let mut words = [0; 255];
+        words[0] = 1;
+        let answer = isolate(&file, ATTENTION_TYPE, &words, &[1; 255], &mut list);
+        assert_eq!(answer, Ok((0, 2)));
     }
 
     #[test]

@@ -235,7 +235,7 @@ struct Writer {
 const FEWEST: usize = 100;
 /// A small case of a refusal that has so many is left out.
 const ENOUGH: usize = 160;
-const SUCCESSES: usize = 950;
+const SUCCESSES: usize = 900;
 /// The most that an ordinary case may add to the file of vectors.
 const MOST_OF_A_CASE: usize = 900;
 
@@ -437,6 +437,7 @@ impl Writer {
             large::children(1, false),
             large::children(1, true),
             large::children(large::MOST_CHILDREN, true),
+            large::full_counts(),
         ];
         for file in files {
             self.store_check(&file);

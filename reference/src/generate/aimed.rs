@@ -372,7 +372,7 @@ fn too_many_instances(random: &mut Random) -> Vec<u8> {
 /// A file at a limit with readings that mostly fit it, as it is or with one
 /// byte changed, cut off or added.
 pub fn large_case(random: &mut Random) -> Case {
-    let mut file = match random.below(10) {
+    let mut file = match random.below(11) {
         0 => large::register_instances(random.between(1_000, 1_030), *random.pick(&[1, 7, 255])),
         1 => large::node_instances(random.between(250, 260)),
         2 | 3 => large::captures(random.below(3)),
@@ -380,6 +380,7 @@ pub fn large_case(random: &mut Random) -> Case {
         5 => large::children(random.between(1, large::MOST_CHILDREN), true),
         6 => large::children(random.between(1, large::MOST_CHILDREN), false),
         7 => large::children(1, random.one_in(2)),
+        8 => large::full_counts(),
         _ => {
             let shape = Shape::at_a_limit(random);
             valid_file(random, &shape).bytes
