@@ -3,10 +3,12 @@
 //!
 //! The same seed gives the same cases.
 
+mod aimed;
 mod damage;
 mod draft;
 mod random;
 
+pub use aimed::{aimed_case, large_case, Sizes, HIGHEST_NUMBER};
 pub use damage::damaged_file;
 pub use draft::{valid_file, Field, FieldKind, FieldMap, Shape};
 pub use random::Random;

@@ -5,15 +5,18 @@ pub mod cases;
 pub mod checker;
 pub mod cycles;
 pub mod expression;
+pub mod fast;
 pub mod generate;
 pub mod hex;
 pub mod index;
 pub mod isolation;
+pub mod large;
 pub mod layout;
 pub mod readings;
 pub mod references;
 pub mod refusal;
 pub mod tree;
+pub mod vectors;
 
 pub use checker::{address, check, Accepted, Summary};
 pub use isolation::{isolate, isolate_with_readings_file};

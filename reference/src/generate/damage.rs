@@ -136,7 +136,7 @@ fn add_at_end(random: &mut Random, bytes: &mut Vec<u8>) {
 }
 
 /// A field of one of the kinds, if the file has any and still holds it.
-fn any_field(
+pub(super) fn any_field(
     random: &mut Random,
     map: &FieldMap,
     bytes: &[u8],

@@ -1,0 +1,109 @@
+//! Compares the proved library with the reference on seeded cases, and stops
+//! at the first difference.
+//!
+//! Usage: fuzz [--trace] [CASES [SEED]]
+//!        fuzz --show SEED NUMBER
+//!        fuzz --case PATH
+
+use std::env;
+use std::fs;
+use std::process::ExitCode;
+
+use compare::case::Case;
+use compare::difference::compare;
+use reference::generate::HIGHEST_NUMBER;
+
+const USAGE: &str = "usage: fuzz [--trace] [CASES [SEED]]
+       fuzz --show SEED NUMBER
+       fuzz --case PATH";
+
+fn main() -> ExitCode {
+    let arguments: Vec<String> = env::args().skip(1).collect();
+    let arguments: Vec<&str> = arguments.iter().map(String::as_str).collect();
+    match arguments[..] {
+        ["--case", path] => replay(path),
+        ["--show", seed, number] => match (seed.parse(), number.parse()) {
+            (Ok(seed), Ok(number)) => {
+                print!("{}", Case::seeded(seed, number).to_text());
+                ExitCode::SUCCESS
+            }
+            _ => usage(),
+        },
+        ["--trace", ref numbers @ ..] => run(numbers, true),
+        ref numbers => run(numbers, false),
+    }
+}
+
+fn usage() -> ExitCode {
+    eprintln!("{USAGE}");
+    ExitCode::FAILURE
+}
+
+fn replay(path: &str) -> ExitCode {
+    let text = match fs::read_to_string(path) {
+        Ok(text) => text,
+        Err(error) => {
+            eprintln!("{path}: {error}");
+            return ExitCode::FAILURE;
+        }
+    };
+    match Case::from_text(&text) {
+        Ok(case) => match compare(&case) {
+            Ok(outcomes) => {
+                println!("no difference: {outcomes:?}");
+                ExitCode::SUCCESS
+            }
+            Err(difference) => {
+                println!("{difference}");
+                ExitCode::FAILURE
+            }
+        },
+        Err(line) => {
+            eprintln!("not a line of a case: {line}");
+            ExitCode::FAILURE
+        }
+    }
+}
+
+fn run(numbers: &[&str], trace: bool) -> ExitCode {
+    let numbers: Option<Vec<u64>> = numbers.iter().map(|text| text.parse().ok()).collect();
+    let (cases, seed) = match numbers.as_deref() {
+        Some([]) => (100_000, 1),
+        Some([cases]) => (*cases, 1),
+        Some([cases, seed]) => (*cases, *seed),
+        _ => return usage(),
+    };
+
+    let mut checked = [0u64; HIGHEST_NUMBER as usize + 1];
+    let mut queried = checked;
+    let mut isolated = checked;
+    for number in 0..cases {
+        if trace {
+            eprintln!("case {number}");
+        }
+        let case = Case::seeded(seed, number);
+        match compare(&case) {
+            Ok(outcomes) => {
+                checked[usize::from(outcomes.check)] += 1;
+                queried[usize::from(outcomes.address)] += 1;
+                isolated[usize::from(outcomes.isolate)] += 1;
+            }
+            Err(difference) => {
+                println!("case {number} of seed {seed}: {difference}");
+                println!("the case, for fuzz --case:");
+                print!("{}", case.to_text());
+                return ExitCode::FAILURE;
+            }
+        }
+    }
+
+    println!("cases {cases} seed {seed}, no difference");
+    println!("number check address isolate");
+    for number in 0..checked.len() {
+        println!(
+            "{number} {} {} {}",
+            checked[number], queried[number], isolated[number]
+        );
+    }
+    ExitCode::SUCCESS
+}

@@ -1,0 +1,244 @@
+//! Cases for all three functions: seeded, and as text.
+
+use std::fmt::Write;
+
+use reference::generate::{self, Random, Sizes, HIGHEST_NUMBER};
+use reference::{cases, hex, large, Accepted};
+
+/// All that the three functions are lent.
+#[derive(Clone, Debug, PartialEq, Eq)]
+pub struct Case {
+    /// File, attention type, readings and the length of the list.
+    pub isolation: generate::Case,
+    /// Register ID and instance of the address query.
+    pub id: u64,
+    pub instance: u8,
+    /// Places of `out`.
+    pub places: usize,
+}
+
+impl Case {
+    /// The case of a seed and a number: always the same.
+    pub fn seeded(seed: u64, number: u64) -> Self {
+        let start = Random::new(Random::new(seed).next() ^ number).next();
+        let random = &mut Random::new(start);
+        let mut isolation = match random.below(100) {
+            0..=39 => generate::case(random),
+            40..=89 => {
+                let aim = random.between(0, HIGHEST_NUMBER.into()) as u8;
+                generate::aimed_case(random, aim, Sizes::Any)
+            }
+            90 | 91 => generate::large_case(random),
+            92..=95 => with_file(random, near_b1),
+            96 | 97 => with_file(random, hand_made),
+            _ => with_file(random, any_bytes),
+        };
+        mix_in_faults(random, &mut isolation);
+        let (id, instance) = register_name(random, &isolation.file);
+        let places = match random.below(16) {
+            0 => random.below(8),
+            _ => random.between(8, 12),
+        };
+        Case {
+            isolation,
+            id,
+            instance,
+            places,
+        }
+    }
+
+    /// One line for each part, as [`Case::from_text`] reads them.
+    pub fn to_text(&self) -> String {
+        let isolation = &self.isolation;
+        let mut text = String::new();
+        let words: Vec<u8> = isolation
+            .words
+            .iter()
+            .flat_map(|word| word.to_be_bytes())
+            .collect();
+        for (name, bytes) in [
+            ("file", &isolation.file),
+            ("words", &words),
+            ("read", &isolation.read),
+        ] {
+            writeln!(text, "{name} {}", hex::encode(bytes)).expect("a String takes all text");
+        }
+        for (name, number) in [
+            ("type", u64::from(isolation.attention_type)),
+            ("list", isolation.room as u64),
+            ("id", self.id),
+            ("instance", u64::from(self.instance)),
+            ("places", self.places as u64),
+        ] {
+            writeln!(text, "{name} {number}").expect("a String takes all text");
+        }
+        text
+    }
+
+    /// The case of such lines, or the first line that is none. A part without
+    /// a line is empty or 0; `places` is then 8.
+    pub fn from_text(text: &str) -> Result<Self, String> {
+        let mut case = Case {
+            isolation: generate::Case {
+                file: Vec::new(),
+                attention_type: 0,
+                words: Vec::new(),
+                read: Vec::new(),
+                room: 0,
+            },
+            id: 0,
+            instance: 0,
+            places: 8,
+        };
+        for line in text.lines().filter(|line| !line.trim().is_empty()) {
+            case.set(line.trim()).ok_or(line)?;
+        }
+        Ok(case)
+    }
+
+    fn set(&mut self, line: &str) -> Option<()> {
+        let (name, value) = line.split_once(' ').unwrap_or((line, ""));
+        let isolation = &mut self.isolation;
+        match name {
+            "file" => isolation.file = hex::decode(value)?,
+            "read" => isolation.read = hex::decode(value)?,
+            "words" => {
+                let bytes = hex::decode(value)?;
+                let words = bytes.chunks(8).map(|word| word.try_into().ok());
+                isolation.words = words
+                    .map(|word| word.map(u64::from_be_bytes))
+                    .collect::<Option<_>>()?;
+            }
+            "type" => isolation.attention_type = value.parse().ok()?,
+            "list" => isolation.room = value.parse().ok()?,
+            "id" => self.id = value.parse().ok()?,
+            "instance" => self.instance = value.parse().ok()?,
+            "places" => self.places = value.parse().ok()?,
+            _ => return None,
+        }
+        Some(())
+    }
+}
+
+/// A file of its own kind, with readings that fit it where it is accepted.
+fn with_file(random: &mut Random, file: fn(&mut Random) -> Vec<u8>) -> generate::Case {
+    let file = file(random);
+    let instances = match Accepted::read(&file) {
+        Ok(accepted) => accepted.tree.register_instances.len(),
+        Err(_) => random.between(1, 4),
+    };
+    let (words, read) = generate::readings(random, instances);
+    generate::Case {
+        file,
+        attention_type: large::ATTENTION_TYPE,
+        words,
+        read,
+        room: random.below(100),
+    }
+}
+
+/// Sample B1 with a byte or two changed, or cut, or longer.
+fn near_b1(random: &mut Random) -> Vec<u8> {
+    let mut file = large::B1.to_vec();
+    for _ in 0..random.below(3) {
+        let at = random.below(file.len());
+        file[at] = match random.below(3) {
+            0 => random.byte(),
+            1 => file[at] ^ 1 << random.below(8),
+            _ => random.below(4) as u8,
+        };
+    }
+    match random.below(8) {
+        0 => file.truncate(random.below(61)),
+        1 => file.push(random.byte()),
+        2 => file.insert(random.below(61), random.byte()),
+        _ => {}
+    }
+    file
+}
+
+fn hand_made(random: &mut Random) -> Vec<u8> {
+    let cases = cases::all();
+    random.pick(&cases).file.clone()
+}
+
+/// Bytes that begin as a file does, or not at all.
+fn any_bytes(random: &mut Random) -> Vec<u8> {
+    let mut file = large::B1[..random.below(61)].to_vec();
+    let more = match random.below(8) {
+        0 => random.between(60_000, 70_000),
+        1 => random.below(3_000),
+        _ => random.below(80),
+    };
+    let most = *random.pick(&[2, 6, 32, 256]);
+    file.extend((0..more).map(|_| random.below(most) as u8));
+    file
+}
+
+/// Now and then a type, readings or room that another refusal may precede.
+fn mix_in_faults(random: &mut Random, case: &mut generate::Case) {
+    match random.below(40) {
+        0..=2 => case.attention_type = random.below(8) as u8,
+        3 => case.attention_type = random.byte(),
+        4 => case.words.truncate(random.below(case.words.len() + 1)),
+        5 => case.read.truncate(random.below(case.read.len() + 1)),
+        6 => {
+            if let Some(last) = case.read.last_mut() {
+                *last = random.byte();
+            }
+        }
+        7 | 8 => case.room = 0,
+        9 => case.room = random.below(64),
+        10 => {
+            case.words.clear();
+            case.read.clear();
+        }
+        _ => {}
+    }
+}
+
+/// A register instance of the file, or one that is not there.
+fn register_name(random: &mut Random, file: &[u8]) -> (u64, u8) {
+    let (mut id, mut instance) = match Accepted::read(file) {
+        Ok(accepted) => {
+            let named = random.pick(&accepted.tree.register_instances);
+            let id = accepted.tree.registers[named.register].id;
+            (u64::from(id), named.number)
+        }
+        Err(_) => (random.below(4) as u64, random.below(4) as u8),
+    };
+    match random.below(12) {
+        0 => id ^= 1 << random.below(64),
+        1 => id |= 1 << random.between(24, 63),
+        2 => id = random.next(),
+        3 => id = random.next() & 0x00FF_FFFF,
+        4 => instance = random.byte(),
+        5 => instance = instance.wrapping_add(1),
+        _ => {}
+    }
+    (id, instance)
+}
+
+#[cfg(test)]
+mod tests {
+    use super::*;
+
+    #[test]
+    fn there_and_back() {
+        for number in 0..300 {
+            let case = Case::seeded(7, number);
+            assert_eq!(case, Case::seeded(7, number));
+            assert_eq!(Case::from_text(&case.to_text()), Ok(case));
+        }
+    }
+
+    #[test]
+    fn text_that_is_no_case() {
+        for line in [
+            "file 0", "words 00", "type 256", "room 1", "id -1", "places",
+        ] {
+            assert_eq!(Case::from_text(line), Err(line.to_string()));
+        }
+        assert!(Case::from_text("").is_ok());
+    }
+}

@@ -1,0 +1,227 @@
+//! Calls the proved library on a case and compares all that it leaves behind
+//! with what the reference gives.
+
+use std::fmt;
+
+use reference::vectors::{address_of_any, expected_of_check, expected_of_pair};
+use reference::{check, isolate};
+
+use crate::case::Case;
+use crate::proved::{self, ADDRESS_PLACES, CHECK_PLACES, ISOLATE_PLACES};
+
+/// The numbers of the three outcomes, 0 for success.
+#[derive(Clone, Copy, Debug, PartialEq, Eq)]
+pub struct Outcomes {
+    pub check: u8,
+    pub address: u8,
+    pub isolate: u8,
+}
+
+#[derive(Clone, Debug, PartialEq, Eq)]
+pub struct Difference {
+    pub call: &'static str,
+    pub proved: String,
+    pub reference: String,
+}
+
+impl fmt::Display for Difference {
+    fn fmt(&self, f: &mut fmt::Formatter<'_>) -> fmt::Result {
+        writeln!(f, "{} differs", self.call)?;
+        writeln!(f, "proved    {}", self.proved)?;
+        write!(f, "reference {}", self.reference)
+    }
+}
+
+/// Bytes around what is lent.
+const AROUND: usize = 64;
+
+/// What a buffer holds before it is lent: no two places near each other alike.
+fn pattern(at: usize) -> u8 {
+    (at.wrapping_mul(0x9D) ^ (at >> 8) ^ 0x5A) as u8
+}
+
+/// A copy in the middle of other bytes, so that a call that takes more than it
+/// was lent gives another answer or changes them.
+struct Lent {
+    bytes: Vec<u8>,
+    length: usize,
+}
+
+impl Lent {
+    fn new(content: &[u8]) -> Self {
+        let mut bytes: Vec<u8> = (0..content.len() + 2 * AROUND).map(pattern).collect();
+        bytes[AROUND..AROUND + content.len()].copy_from_slice(content);
+        Lent {
+            bytes,
+            length: content.len(),
+        }
+    }
+
+    /// A buffer that keeps its pattern.
+    fn patterned(length: usize) -> Self {
+        Lent {
+            bytes: (0..length + 2 * AROUND).map(pattern).collect(),
+            length,
+        }
+    }
+
+    fn part(&self) -> &[u8] {
+        &self.bytes[AROUND..AROUND + self.length]
+    }
+
+    fn part_mut(&mut self) -> &mut [u8] {
+        &mut self.bytes[AROUND..AROUND + self.length]
+    }
+}
+
+/// `out` with a pattern, and more places around it.
+struct Out {
+    places: Vec<u64>,
+    length: usize,
+}
+
+impl Out {
+    const AROUND: usize = 4;
+
+    fn new(length: usize) -> Self {
+        let places = 0..(length + 2 * Self::AROUND) as u64;
+        Out {
+            places: places.map(|place| !(place << 32 | place)).collect(),
+            length,
+        }
+    }
+
+    fn part(&mut self) -> &mut [u64] {
+        &mut self.places[Self::AROUND..Self::AROUND + self.length]
+    }
+
+    /// All places as they are to be after a call with this answer.
+    fn expected(length: usize, answer: &[u32]) -> Vec<u64> {
+        let mut out = Out::new(length);
+        if length >= answer.len() {
+            for (place, &value) in out.part().iter_mut().zip(answer) {
+                *place = u64::from(value);
+            }
+        }
+        out.places
+    }
+}
+
+fn same_numbers(call: &'static str, proved: &[u64], reference: &[u64]) -> Result<(), Difference> {
+    if proved == reference {
+        return Ok(());
+    }
+    let as_lent = Out::new(proved.len() - 2 * Out::AROUND).places;
+    let show = |places: &[u64]| {
+        let note = if places == as_lent { " (as lent)" } else { "" };
+        format!("{:?}{note}", &places[Out::AROUND..])
+    };
+    Err(Difference {
+        call,
+        proved: show(proved),
+        reference: show(reference),
+    })
+}
+
+fn same_list(proved: &Lent, reference: &Lent) -> Result<(), Difference> {
+    let mut pairs = proved.bytes.iter().zip(&reference.bytes);
+    let Some(at) = pairs.position(|(proved, reference)| proved != reference) else {
+        return Ok(());
+    };
+    let show = |lent: &Lent| {
+        let end = lent.bytes.len().min(at + 16);
+        format!(
+            "{} from byte {} of {}",
+            reference::hex::encode(&lent.bytes[at..end]),
+            at as isize - AROUND as isize,
+            lent.length
+        )
+    };
+    Err(Difference {
+        call: "the list after isolate",
+        proved: show(proved),
+        reference: show(reference),
+    })
+}
+
+/// The outcomes, if nothing differs.
+pub fn compare(case: &Case) -> Result<Outcomes, Difference> {
+    let file = Lent::new(&case.isolation.file);
+    Ok(Outcomes {
+        check: compare_check(case, &file)?,
+        address: compare_address(case, &file)?,
+        isolate: compare_isolate(case, &file)?,
+    })
+}
+
+fn compare_check(case: &Case, file: &Lent) -> Result<u8, Difference> {
+    let answer = expected_of_check(check(&case.isolation.file));
+    let mut out = Out::new(case.places);
+    proved::check(file.part(), out.part());
+    let expected = Out::expected(case.places, &answer[..CHECK_PLACES]);
+    same_numbers("check", &out.places, &expected)?;
+    Ok(answer[0] as u8)
+}
+
+fn compare_address(case: &Case, file: &Lent) -> Result<u8, Difference> {
+    let answer = address_of_any(&case.isolation.file, case.id, case.instance);
+    let answer = expected_of_pair(answer);
+    let mut out = Out::new(case.places);
+    proved::address(file.part(), case.id, case.instance, out.part());
+    let expected = Out::expected(case.places, &answer[..ADDRESS_PLACES]);
+    same_numbers("address", &out.places, &expected)?;
+    Ok(answer[0] as u8)
+}
+
+fn compare_isolate(case: &Case, file: &Lent) -> Result<u8, Difference> {
+    let isolation = &case.isolation;
+    let mut expected_list = Lent::patterned(isolation.room);
+    let answer = expected_of_pair(isolate(
+        &isolation.file,
+        isolation.attention_type,
+        &isolation.words,
+        &isolation.read,
+        expected_list.part_mut(),
+    ));
+
+    let read = Lent::new(&isolation.read);
+    let mut list = Lent::patterned(isolation.room);
+    let mut out = Out::new(case.places);
+    proved::isolate(
+        file.part(),
+        isolation.attention_type,
+        &isolation.words,
+        read.part(),
+        list.part_mut(),
+        out.part(),
+    );
+    let expected = Out::expected(case.places, &answer[..ISOLATE_PLACES]);
+    same_numbers("isolate", &out.places, &expected)?;
+    // Without places for its answer the call may as well do nothing.
+    let idle = case.places < ISOLATE_PLACES && list.bytes == Lent::patterned(isolation.room).bytes;
+    if !idle {
+        same_list(&list, &expected_list)?;
+    }
+    Ok(answer[0] as u8)
+}
+
+#[cfg(test)]
+mod tests {
+    use super::*;
+
+    #[test]
+    fn the_proved_library_agrees() {
+        for number in 0..2_000 {
+            let case = Case::seeded(1, number);
+            if let Err(difference) = compare(&case) {
+                panic!("{difference}\n{}", case.to_text());
+            }
+        }
+    }
+
+    #[test]
+    fn a_short_out_is_as_lent() {
+        assert_eq!(Out::expected(7, &[1; 8]), Out::new(7).places);
+        assert_ne!(Out::expected(8, &[1; 8]), Out::new(8).places);
+    }
+}

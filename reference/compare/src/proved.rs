@@ -1,0 +1,89 @@
+//! The proved library's three functions.
+//!
+//! Each takes any input: none has a precondition. `out` gets the answer as
+//! 64-bit numbers, the first two being the number of the refusal (0: none) and
+//! its place.
+
+/// Number, place, model, registers, register instances, nodes, node instances
+/// and roots.
+pub const CHECK_PLACES: usize = 8;
+/// Number, place, offset, size.
+pub const ADDRESS_PLACES: usize = 4;
+/// Number, place, records, steps.
+pub const ISOLATE_PLACES: usize = 4;
+
+extern "C" {
+    fn lutemarble_check(file: *const u8, file_len: usize, out: *mut u64, out_len: usize);
+
+    fn lutemarble_address(
+        file: *const u8,
+        file_len: usize,
+        id: u64,
+        instance: u8,
+        out: *mut u64,
+        out_len: usize,
+    );
+
+    fn lutemarble_isolate(
+        file: *const u8,
+        file_len: usize,
+        attention: u8,
+        words: *const u64,
+        words_len: usize,
+        read: *const u8,
+        read_len: usize,
+        list: *mut u8,
+        list_len: usize,
+        out: *mut u64,
+        out_len: usize,
+    );
+}
+
+/// An `out` of fewer than [`CHECK_PLACES`] places keeps what it has.
+pub fn check(file: &[u8], out: &mut [u64]) {
+    // SAFETY: the pointers and lengths are those of slices that live until the
+    // call returns, and nothing else has the one that is written.
+    unsafe { lutemarble_check(file.as_ptr(), file.len(), out.as_mut_ptr(), out.len()) }
+}
+
+/// An `out` of fewer than [`ADDRESS_PLACES`] places keeps what it has.
+pub fn address(file: &[u8], id: u64, instance: u8, out: &mut [u64]) {
+    // SAFETY: as above.
+    unsafe {
+        lutemarble_address(
+            file.as_ptr(),
+            file.len(),
+            id,
+            instance,
+            out.as_mut_ptr(),
+            out.len(),
+        )
+    }
+}
+
+/// An `out` of fewer than [`ISOLATE_PLACES`] places keeps what it has.
+pub fn isolate(
+    file: &[u8],
+    attention_type: u8,
+    words: &[u64],
+    read: &[u8],
+    list: &mut [u8],
+    out: &mut [u64],
+) {
+    // SAFETY: as above; `list` and `out` are lent alone and do not overlap.
+    unsafe {
+        lutemarble_isolate(
+            file.as_ptr(),
+            file.len(),
+            attention_type,
+            words.as_ptr(),
+            words.len(),
+            read.as_ptr(),
+            read.len(),
+            list.as_mut_ptr(),
+            list.len(),
+            out.as_mut_ptr(),
+            out.len(),
+        )
+    }
+}

@@ -1,0 +1,51 @@
+//! Writes the test vectors of a seed and prints how many there are of each
+//! outcome.
+//!
+//! Usage: vectors [PATH [SEED]]
+
+use std::collections::BTreeMap;
+use std::env;
+use std::fs;
+use std::process::ExitCode;
+
+use reference::vectors::{self, Kind};
+
+fn main() -> ExitCode {
+    let arguments: Vec<String> = env::args().skip(1).collect();
+    let seed = arguments.get(1).map_or(Ok(1), |text| text.parse());
+    let (Ok(seed), 0..=2) = (seed, arguments.len()) else {
+        eprintln!("usage: vectors [PATH [SEED]]");
+        return ExitCode::FAILURE;
+    };
+    let path = arguments.first().map_or("vectors.bin", String::as_str);
+
+    let bytes = vectors::build(seed);
+    let Some(all) = vectors::read(&bytes) else {
+        eprintln!("the vectors do not read back");
+        return ExitCode::FAILURE;
+    };
+    let mut outcomes: BTreeMap<(Kind, u32), usize> = BTreeMap::new();
+    for vector in &all {
+        *outcomes
+            .entry((vector.kind, vector.expected[0]))
+            .or_default() += 1;
+    }
+    for (kind, name) in [
+        (Kind::Check, "check"),
+        (Kind::Address, "address"),
+        (Kind::Isolation, "isolation"),
+    ] {
+        print!("{name}");
+        for (&(_, number), count) in outcomes.range((kind, 0)..=(kind, u32::MAX)) {
+            print!(" {number}:{count}");
+        }
+        println!();
+    }
+    println!("cases {} bytes {} seed {seed}", all.len(), bytes.len());
+
+    if let Err(error) = fs::write(path, &bytes) {
+        eprintln!("{path}: {error}");
+        return ExitCode::FAILURE;
+    }
+    ExitCode::SUCCESS
+}

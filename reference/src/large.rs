@@ -1,0 +1,308 @@
+//! Files at the limits, and one beyond them. They are the same each time.
+
+use crate::layout::{
+    EXPRESSION_AND, EXPRESSION_NOT, EXPRESSION_OR, EXPRESSION_REGISTER, EXPRESSION_SHIFT_LEFT,
+    EXPRESSION_SHIFT_RIGHT, MAX_EXPRESSION_LEVEL, MAX_FILE_BYTES, MAX_NODE_INSTANCES,
+    MAX_REGISTER_INSTANCES, READABLE,
+};
+
+/// Sample B1.
+pub const B1: [u8; 60] = *b"CHIPDATA\x00\x00\x00\x01\x01\
+    REGS\x00\x00\x01\x00\x00\x01\x01\x80\x01\x00\x00\x00\x10\x00\
+    NODE\x00\x01\x00\x01\x01\x01\x00\x00\x01\x00\x03\x01\x00\x00\x01\x00\
+    ROOT\x01\x03\x00\x01\x00";
+
+/// The attention type that the files here have rules and a root for.
+pub const ATTENTION_TYPE: u8 = 3;
+
+const ROOTS: [u8; 9] = *b"ROOT\x01\x03\x00\x01\x00";
+
+/// The start, and the register instances in registers of at most
+/// `in_a_register` instances: IDs from 1 up, instances from 0 up, type 1.
+fn start(instances: usize, in_a_register: usize) -> Vec<u8> {
+    let mut file = b"CHIPDATA\x00\x00\x00\x01\x01REGS".to_vec();
+    let registers = instances.div_ceil(in_a_register);
+    file.extend(&(registers as u32).to_be_bytes()[1..]);
+    for register in 0..registers {
+        let count = in_a_register.min(instances - register * in_a_register);
+        file.extend(&(register as u32 + 1).to_be_bytes()[1..]);
+        file.extend([1, READABLE, count as u8]);
+        for number in 0..count {
+            file.extend([number as u8, 0, 0, register as u8, number as u8]);
+        }
+    }
+    file
+}
+
+/// The name of a register instance, by its position.
+fn register_name(position: usize, in_a_register: usize) -> [u8; 4] {
+    let [_, a, b, c] = ((position / in_a_register) as u32 + 1).to_be_bytes();
+    [a, b, c, (position % in_a_register) as u8]
+}
+
+/// What a node instance has beside its number, 0. Names of captured registers,
+/// its one rule, and bits and positions of its children.
+struct Instance {
+    captures: Vec<[u8; 4]>,
+    rule: Vec<u8>,
+    children: Vec<(u8, usize)>,
+}
+
+/// Nodes of type 1 with IDs from 1 up and one instance each.
+struct Nodes {
+    instances: Vec<Instance>,
+}
+
+impl Nodes {
+    /// `count` instances, each with a register as its rule.
+    fn plain(count: usize, register: impl Fn(usize) -> [u8; 4]) -> Self {
+        let instance = |position| {
+            let mut rule = vec![EXPRESSION_REGISTER];
+            rule.extend(register(position));
+            Instance {
+                captures: Vec::new(),
+                rule,
+                children: Vec::new(),
+            }
+        };
+        Nodes {
+            instances: (0..count).map(instance).collect(),
+        }
+    }
+
+    /// The bytes of all nodes.
+    fn bytes(&self) -> usize {
+        let instances = self.instances.iter();
+        instances
+            .map(|instance| {
+                let names = instance.captures.len() + instance.children.len();
+                9 + 4 * names + instance.rule.len()
+            })
+            .sum()
+    }
+
+    fn write(&self, mut file: Vec<u8>) -> Vec<u8> {
+        file.extend(b"NODE");
+        file.extend((self.instances.len() as u16).to_be_bytes());
+        for (position, instance) in self.instances.iter().enumerate() {
+            file.extend((position as u16 + 1).to_be_bytes());
+            file.extend([1, 1, 0]);
+            file.push(instance.captures.len() as u8);
+            file.push(1);
+            file.push(instance.children.len() as u8);
+            file.extend(instance.captures.concat());
+            file.push(ATTENTION_TYPE);
+            file.extend(&instance.rule);
+            for &(bit, child) in &instance.children {
+                file.push(bit);
+                file.extend((child as u16 + 1).to_be_bytes());
+                file.push(0);
+            }
+        }
+        file.extend(ROOTS);
+        file
+    }
+}
+
+/// So many register instances; the one rule names the last of them.
+pub fn register_instances(instances: usize, in_a_register: usize) -> Vec<u8> {
+    let last = register_name(instances - 1, in_a_register);
+    Nodes::plain(1, |_| last).write(start(instances, in_a_register))
+}
+
+/// So many node instances, each with its own register as its rule where there
+/// are enough.
+pub fn node_instances(instances: usize) -> Vec<u8> {
+    let registers = instances.min(MAX_REGISTER_INSTANCES);
+    Nodes::plain(instances, |position| register_name(position % registers, 1))
+        .write(start(registers, 1))
+}
+
+/// A file of 65,536 bytes and `more`, with as many captures as it holds, of
+/// 1,024 register instances in turn.
+pub fn captures(more: usize) -> Vec<u8> {
+    let file = start(MAX_REGISTER_INSTANCES, 128);
+    let mut nodes = Nodes::plain(MAX_NODE_INSTANCES, |position| register_name(position, 128));
+    let room = MAX_FILE_BYTES + more - file.len() - 6 - ROOTS.len() - nodes.bytes();
+    for capture in 0..room / 4 {
+        let register = register_name(capture * 7 % MAX_REGISTER_INSTANCES, 128);
+        nodes.instances[capture % MAX_NODE_INSTANCES]
+            .captures
+            .push(register);
+    }
+    for _ in 0..room % 4 {
+        nodes.instances[0].rule.insert(0, EXPRESSION_NOT);
+    }
+    nodes.write(file)
+}
+
+/// A file of at most 65,536 bytes whose rules are as long as it holds and go
+/// down to the highest level, in all operations.
+pub fn deep_expressions() -> Vec<u8> {
+    let file = start(MAX_REGISTER_INSTANCES, 128);
+    let mut nodes = Nodes::plain(MAX_NODE_INSTANCES, |position| register_name(position, 128));
+    let mut left = MAX_FILE_BYTES - file.len() - 6 - ROOTS.len() - nodes.bytes();
+    for (position, instance) in nodes.instances.iter_mut().enumerate() {
+        let rule = &mut instance.rule;
+        let before = rule.len();
+        let share = left / (MAX_NODE_INSTANCES - position);
+        *rule = deep_rule(position, share + before);
+        left -= rule.len() - before;
+    }
+    nodes.write(file)
+}
+
+/// An OR of rows that go down to the highest level, with a register at the end
+/// of each.
+fn deep_rule(position: usize, most_bytes: usize) -> Vec<u8> {
+    let mut row = Vec::new();
+    for level in 2..MAX_EXPRESSION_LEVEL {
+        match level % 4 {
+            0 => row.extend([EXPRESSION_SHIFT_LEFT, 3]),
+            1 => row.extend([EXPRESSION_SHIFT_RIGHT, 3]),
+            2 => row.push(EXPRESSION_NOT),
+            _ => {
+                row.extend([EXPRESSION_AND, 2, EXPRESSION_REGISTER]);
+                row.extend(register_name(position * 3 + level, 128));
+            }
+        }
+    }
+    row.push(EXPRESSION_REGISTER);
+    row.extend(register_name(position * 4 + 3, 128));
+    let rows = (most_bytes.saturating_sub(2) / row.len()).clamp(2, 255);
+    let mut rule = vec![EXPRESSION_OR, rows as u8];
+    rule.extend(row.repeat(rows));
+    rule
+}
+
+/// 256 node instances, each but the last with `children` children at its first
+/// bits, all of them earlier in the file where `backward`; the root is then the
+/// last. Each has a register of its own. The next instance is among the
+/// children, so a chain may reach them all.
+pub fn children(children: usize, backward: bool) -> Vec<u8> {
+    let mut nodes = Nodes::plain(MAX_NODE_INSTANCES, |position| register_name(position, 1));
+    let last = MAX_NODE_INSTANCES - 1;
+    let place = |rank: usize| if backward { last - rank } else { rank };
+    for rank in 0..last {
+        let entries = &mut nodes.instances[place(rank)].children;
+        for bit in 0..children.min(last - rank) {
+            entries.push((bit as u8, place(rank + 1 + bit)));
+        }
+    }
+    let mut file = nodes.write(start(MAX_NODE_INSTANCES, 1));
+    let root = file.len() - 3;
+    file[root..root + 2].copy_from_slice(&(place(0) as u16 + 1).to_be_bytes());
+    file
+}
+
+/// A file whose counts of one byte are as high as they may be: a register and a
+/// node of 255 instances each; the first node instance has 255 captures, five
+/// rules, one of them an OR of 255 registers, and 64 children; five roots.
+pub fn full_counts() -> Vec<u8> {
+    let mut file = start(255, 255);
+    file.extend(b"NODE\x00\x01\x00\x01\x01\xFF");
+    file.extend([0, 255, 5, 64]);
+    for capture in 0..255 {
+        file.extend(register_name(254 - capture, 255));
+    }
+    for attention_type in 1..=5 {
+        file.push(attention_type);
+        if attention_type == ATTENTION_TYPE {
+            file.extend([EXPRESSION_OR, 255]);
+            for operand in 0..254 {
+                file.push(EXPRESSION_REGISTER);
+                file.extend(register_name(operand, 255));
+            }
+        }
+        file.push(EXPRESSION_REGISTER);
+        file.extend(register_name(254, 255));
+    }
+    for bit in 0..64 {
+        file.extend([63 - bit, 0, 1, 191 + bit]);
+    }
+    for instance in 1..255 {
+        file.extend([instance as u8, 0, 1, 0, ATTENTION_TYPE, EXPRESSION_REGISTER]);
+        file.extend(register_name(instance, 255));
+    }
+    file.extend(b"ROOT\x05");
+    for attention_type in 1..=5 {
+        file.extend([attention_type, 0, 1, 0]);
+    }
+    file
+}
+
+/// As many children as 256 node instances may have in 65,536 bytes.
+pub const MOST_CHILDREN: usize = 60;
+
+#[cfg(test)]
+mod tests {
+    use super::*;
+    use crate::refusal::Refusal;
+    use crate::{check, hex, isolate};
+
+    #[test]
+    fn b1_is_the_sample() {
+        let text = "43 48 49 50 44 41 54 41 00 00 00 01 01 52 45 47 53 00 00 01 \
+            00 00 01 01 80 01 00 00 00 10 00 4E 4F 44 45 00 01 00 01 01 \
+            01 00 00 01 00 03 01 00 00 01 00 52 4F 4F 54 01 03 00 01 00";
+        assert_eq!(hex::decode(text).unwrap(), B1);
+    }
+
+    fn counts(file: &[u8]) -> (usize, usize) {
+        let summary = check(file).unwrap();
+        (summary.register_instances, summary.node_instances)
+    }
+
+    #[test]
+    fn at_the_limits_and_beyond() {
+        assert_eq!(counts(&register_instances(1_024, 1)), (1_024, 1));
+        assert_eq!(counts(&register_instances(1_024, 255)), (1_024, 1));
+        assert_eq!(check(&register_instances(1_025, 1)).unwrap_err().number, 8);
+        assert_eq!(counts(&node_instances(256)), (256, 256));
+        assert_eq!(check(&node_instances(257)).unwrap_err().number, 8);
+
+        let full = captures(0);
+        assert_eq!(full.len(), 65_536);
+        assert_eq!(counts(&full), (1_024, 256));
+        let longer = captures(1);
+        assert_eq!(longer.len(), 65_537);
+        let refusal = Refusal::new(1, 0);
+        assert_eq!(check(&longer), Err(refusal));
+
+        let deep = deep_expressions();
+        assert!((64_000..=65_536).contains(&deep.len()), "{}", deep.len());
+        assert_eq!(counts(&deep), (1_024, 256));
+    }
+
+    #[test]
+    fn counts_are_full() {
+        let file = full_counts();
+        assert_eq!(counts(&file), (255, 255));
+        assert_eq!(check(&file).unwrap().roots, 5);
+        let words = [u64::MAX; 255];
+        let mut list = vec![0; 64 * 64 * 8];
+        let answer = isolate(&file, ATTENTION_TYPE, &words, &[1; 255], &mut list);
+        assert_eq!(answer, Ok((64 * 64, 65)));
+        // One operand of the OR, the first register, and one child.
+        let mut words = [0; 255];
+        words[0] = 1;
+        let answer = isolate(&file, ATTENTION_TYPE, &words, &[1; 255], &mut list);
+        assert_eq!(answer, Ok((0, 2)));
+    }
+
+    #[test]
+    fn all_children_are_reached() {
+        for backward in [false, true] {
+            for most in [1, MOST_CHILDREN] {
+                let file = children(most, backward);
+                assert!(file.len() <= 65_536);
+                let mut list = vec![0; 256 * 64 * 8];
+                let words = [u64::MAX; 256];
+                let answer = isolate(&file, ATTENTION_TYPE, &words, &[1; 256], &mut list);
+                // Each bit without a child is listed.
+                let entries: usize = (0..255).map(|rank| most.min(255 - rank)).sum();
+                assert_eq!(answer, Ok((256 * 64 - entries, 256)));
+            }
+        }
+    }
+}

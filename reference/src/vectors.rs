@@ -1,0 +1,612 @@
+//! Test vectors: calls with the answers that the reference gives, in one file
+//! that a simple program can walk. The README has its layout byte by byte.
+
+use std::collections::HashMap;
+
+use crate::checker::{self, Accepted};
+use crate::generate::{self, Case, Random, Sizes, HIGHEST_NUMBER};
+use crate::isolation::RECORD_BYTES;
+use crate::layout::MAX_FILE_BYTES;
+use crate::readings::READ;
+use crate::refusal::{self, Refusal};
+use crate::{address, cases, check, isolate, large};
+
+pub const KEYWORD: [u8; 8] = *b"LUTEVECT";
+/// Keyword, place of the first case (4), number of cases (4).
+pub const START_BYTES: usize = 16;
+/// What each case has before its words.
+pub const CASE_BYTES: usize = 56;
+/// Number, place and up to six more, 4 bytes each.
+pub const EXPECTED: usize = 8;
+
+// What a reader may count on.
+pub const MOST_BYTES: usize = 1_500_000;
+pub const MOST_WORDS: usize = 1_100;
+pub const MOST_LIST_BYTES: usize = 33_000;
+
+#[derive(Clone, Copy, Debug, PartialEq, Eq, Hash, PartialOrd, Ord)]
+pub enum Kind {
+    Check = 1,
+    Address = 2,
+    Isolation = 3,
+}
+
+/// One call and its answer, as it stands in the file of vectors.
+#[derive(Clone, Debug, PartialEq, Eq)]
+pub struct Vector<'a> {
+    pub kind: Kind,
+    /// Attention type of isolation, instance of an address query.
+    pub selector: u8,
+    /// The byte that the list is full of when it is lent.
+    pub fill: u8,
+    pub file: &'a [u8],
+    /// Of isolation; the one word of an address query is the register ID.
+    pub words: Vec<u64>,
+    pub read: &'a [u8],
+    pub list_bytes: usize,
+    pub expected: [u32; EXPECTED],
+    /// The records: what the list begins with after the call.
+    pub records: &'a [u8],
+}
+
+/// The answer of a check as the vectors have it.
+pub fn expected_of_check(answer: Result<checker::Summary, Refusal>) -> [u32; EXPECTED] {
+    match answer {
+        Ok(summary) => [
+            0,
+            0,
+            summary.model,
+            summary.registers as u32,
+            summary.register_instances as u32,
+            summary.nodes as u32,
+            summary.node_instances as u32,
+            summary.roots as u32,
+        ],
+        Err(refusal) => expected_of_refusal(refusal),
+    }
+}
+
+/// The answer of an address query or of isolation as the vectors have it.
+pub fn expected_of_pair(answer: Result<(usize, usize), Refusal>) -> [u32; EXPECTED] {
+    match answer {
+        Ok((first, second)) => [0, 0, first as u32, second as u32, 0, 0, 0, 0],
+        Err(refusal) => expected_of_refusal(refusal),
+    }
+}
+
+fn expected_of_refusal(refusal: Refusal) -> [u32; EXPECTED] {
+    [
+        u32::from(refusal.number),
+        refusal.place as u32,
+        0,
+        0,
+        0,
+        0,
+        0,
+        0,
+    ]
+}
+
+/// The reference's address query for any ID of 64 bits. An ID beyond 24 bits
+/// names no register.
+pub fn address_of_any(file: &[u8], id: u64, instance: u8) -> Result<(usize, usize), Refusal> {
+    address(file, u32::try_from(id).unwrap_or(u32::MAX), instance)
+}
+
+// Reading.
+
+struct Reader<'a> {
+    bytes: &'a [u8],
+    at: usize,
+}
+
+impl<'a> Reader<'a> {
+    fn take(&mut self, size: usize) -> Option<&'a [u8]> {
+        let taken = self.bytes.get(self.at..self.at.checked_add(size)?)?;
+        self.at += size;
+        Some(taken)
+    }
+
+    fn number(&mut self, size: usize) -> Option<u64> {
+        let bytes = self.take(size)?;
+        Some(bytes.iter().fold(0, |n, &byte| n << 8 | u64::from(byte)))
+    }
+
+    fn size(&mut self) -> Option<usize> {
+        Some(self.number(4)? as usize)
+    }
+
+    fn vector(&mut self) -> Option<Vector<'a>> {
+        let kind = match self.number(1)? {
+            1 => Kind::Check,
+            2 => Kind::Address,
+            3 => Kind::Isolation,
+            _ => return None,
+        };
+        let selector = self.number(1)? as u8;
+        let fill = self.number(1)? as u8;
+        if self.number(1)? != 0 {
+            return None;
+        }
+        let place = self.size()?;
+        let length = self.size()?;
+        let file = self.bytes.get(place..place.checked_add(length)?)?;
+        let words = self.size()?;
+        let read = self.size()?;
+        let list_bytes = self.size()?;
+        let mut expected = [0; EXPECTED];
+        for value in &mut expected {
+            *value = self.number(4)? as u32;
+        }
+        let words = (0..words)
+            .map(|_| self.number(8))
+            .collect::<Option<Vec<u64>>>()?;
+        let read = self.take(read)?;
+        let records = match kind {
+            Kind::Isolation => self.take(expected[2] as usize * RECORD_BYTES)?,
+            _ => &[],
+        };
+        Some(Vector {
+            kind,
+            selector,
+            fill,
+            file,
+            words,
+            read,
+            list_bytes,
+            expected,
+            records,
+        })
+    }
+}
+
+/// The vectors of a file, or none if it is not one.
+pub fn read(bytes: &[u8]) -> Option<Vec<Vector<'_>>> {
+    let mut reader = Reader { bytes, at: 0 };
+    if reader.take(KEYWORD.len())? != KEYWORD {
+        return None;
+    }
+    let first = reader.size()?;
+    let count = reader.size()?;
+    reader.at = first;
+    let vectors = (0..count)
+        .map(|_| reader.vector())
+        .collect::<Option<Vec<_>>>()?;
+    (reader.at == bytes.len()).then_some(vectors)
+}
+
+// Writing.
+
+/// A call before it has its place in the file of vectors.
+struct Draft {
+    kind: Kind,
+    selector: u8,
+    fill: u8,
+    file: (usize, usize),
+    words: Vec<u64>,
+    read: Vec<u8>,
+    list_bytes: usize,
+    expected: [u32; EXPECTED],
+    records: Vec<u8>,
+}
+
+impl Draft {
+    fn bytes(&self) -> usize {
+        CASE_BYTES + 8 * self.words.len() + self.read.len() + self.records.len()
+    }
+
+    fn write(&self, out: &mut Vec<u8>) {
+        let mut number = |value: usize| out.extend((value as u32).to_be_bytes());
+        number(
+            (self.kind as usize) << 24
+                | usize::from(self.selector) << 16
+                | usize::from(self.fill) << 8,
+        );
+        number(self.file.0);
+        number(self.file.1);
+        number(self.words.len());
+        number(self.read.len());
+        number(self.list_bytes);
+        self.expected
+            .iter()
+            .for_each(|&value| number(value as usize));
+        self.words
+            .iter()
+            .for_each(|word| out.extend(word.to_be_bytes()));
+        out.extend(&self.read);
+        out.extend(&self.records);
+    }
+}
+
+/// The files of all cases, and the cases. A file that is the beginning of what
+/// stands at an earlier file's place has that place too.
+struct Writer {
+    random: Random,
+    /// The start, filled in at the end, and the files.
+    bytes: Vec<u8>,
+    places: Vec<usize>,
+    whole: HashMap<Vec<u8>, usize>,
+    drafts: Vec<Draft>,
+    /// Isolation cases by outcome.
+    outcomes: [usize; HIGHEST_NUMBER as usize + 1],
+}
+
+/// Each refusal is aimed at until it has so many isolation cases.
+const FEWEST: usize = 100;
+/// A small case of a refusal that has so many is left out.
+const ENOUGH: usize = 160;
+const SUCCESSES: usize = 900;
+/// The most that an ordinary case may add to the file of vectors.
+const MOST_OF_A_CASE: usize = 900;
+
+impl Writer {
+    fn place(&mut self, file: &[u8]) -> (usize, usize) {
+        let place = self.whole.get(file).copied().or_else(|| {
+            let mut places = self.places.iter();
+            places
+                .find(|&&place| self.bytes[place..].starts_with(file))
+                .copied()
+        });
+        let place = place.unwrap_or_else(|| {
+            let place = self.bytes.len();
+            self.bytes.extend(file);
+            self.places.push(place);
+            self.whole.insert(file.to_vec(), place);
+            place
+        });
+        (place, file.len())
+    }
+
+    fn isolation(&mut self, case: &Case, file: (usize, usize)) {
+        let fill = self.random.byte();
+        let mut list = vec![fill; case.room];
+        let answer = isolate(
+            &case.file,
+            case.attention_type,
+            &case.words,
+            &case.read,
+            &mut list,
+        );
+        let expected = expected_of_pair(answer);
+        self.outcomes[expected[0] as usize] += 1;
+        list.truncate(expected[2] as usize * RECORD_BYTES);
+        self.drafts.push(Draft {
+            kind: Kind::Isolation,
+            selector: case.attention_type,
+            fill,
+            file,
+            words: case.words.clone(),
+            read: case.read.clone(),
+            list_bytes: case.room,
+            expected,
+            records: list,
+        });
+    }
+
+    fn store_isolation(&mut self, case: &Case) {
+        let file = self.place(&case.file);
+        self.isolation(case, file);
+    }
+
+    fn store_check(&mut self, file: &[u8]) {
+        let expected = expected_of_check(check(file));
+        let file = self.place(file);
+        self.drafts.push(Draft {
+            kind: Kind::Check,
+            selector: 0,
+            fill: 0,
+            file,
+            words: Vec::new(),
+            read: Vec::new(),
+            list_bytes: 0,
+            expected,
+            records: Vec::new(),
+        });
+    }
+
+    fn store_address(&mut self, file: &[u8], id: u64, instance: u8) {
+        let expected = expected_of_pair(address_of_any(file, id, instance));
+        let file = self.place(file);
+        self.drafts.push(Draft {
+            kind: Kind::Address,
+            selector: instance,
+            fill: 0,
+            file,
+            words: vec![id],
+            read: Vec::new(),
+            list_bytes: 0,
+            expected,
+            records: Vec::new(),
+        });
+    }
+
+    /// The isolation case, if its outcome is still wanted and it is small.
+    fn offer(&mut self, case: &Case) {
+        let mut list = vec![0; case.room];
+        let answer = isolate(
+            &case.file,
+            case.attention_type,
+            &case.words,
+            &case.read,
+            &mut list,
+        );
+        let (number, records) = match answer {
+            Ok((records, _)) => (0, records),
+            Err(refusal) => (refusal.number, 0),
+        };
+        let enough = if number == 0 { SUCCESSES } else { ENOUGH };
+        let size = case.file.len() + 9 * case.words.len() + records * RECORD_BYTES;
+        if self.outcomes[usize::from(number)] < enough && size <= MOST_OF_A_CASE {
+            self.store_isolation(case);
+        }
+    }
+
+    /// Small files of every outcome but 1 and 8, each used a few times.
+    fn small_cases(&mut self) {
+        for number in 0..=HIGHEST_NUMBER {
+            if matches!(number, refusal::FILE_TOO_LONG | refusal::TOO_MANY_INSTANCES) {
+                continue;
+            }
+            let fewest = if number == 0 { SUCCESSES } else { FEWEST };
+            while self.outcomes[usize::from(number)] < fewest {
+                let mut case = generate::aimed_case(&mut self.random, number, Sizes::Small);
+                self.tighten(&mut case);
+                self.offer(&case);
+                if number == 0 || number > refusal::CYCLE {
+                    for _ in 0..3 {
+                        self.vary(&mut case);
+                        self.offer(&case);
+                    }
+                }
+            }
+        }
+    }
+
+    /// Gives a list that is much too long only a little more than it needs.
+    fn tighten(&mut self, case: &mut Case) {
+        if case.room > 600 {
+            case.room = 600 + self.random.below(9);
+        }
+    }
+
+    /// Another type, other readings or another list for the same file.
+    fn vary(&mut self, case: &mut Case) {
+        match self.random.below(4) {
+            0 => case.attention_type = self.random.below(8) as u8,
+            1 => case.room = self.random.below(100),
+            _ => {
+                let instances = case.read.len().max(1);
+                let (words, read) = generate::readings(&mut self.random, instances);
+                case.words = words;
+                case.read = read;
+                if self.random.one_in(3) {
+                    case.read.fill(READ);
+                }
+            }
+        }
+    }
+
+    /// A call for a file that is refused, whatever else is lent.
+    fn any_isolation(&mut self, file: Vec<u8>) -> Case {
+        Case {
+            file,
+            attention_type: self.random.below(7) as u8,
+            words: vec![self.random.next()],
+            read: vec![READ],
+            room: self.random.below(20),
+        }
+    }
+
+    /// Instances beyond the limits: a few files, cut behind that place.
+    fn too_many_instances(&mut self) {
+        let mut files = vec![
+            large::register_instances(1_025, 1),
+            large::register_instances(1_030, 255),
+            large::node_instances(257),
+            large::node_instances(260),
+        ];
+        while files.len() < 10 {
+            let case =
+                generate::aimed_case(&mut self.random, refusal::TOO_MANY_INSTANCES, Sizes::Small);
+            files.push(case.file);
+        }
+        for file in &files {
+            let Err(refusal) = check(file) else { continue };
+            self.store_check(file);
+            for _ in 0..8 {
+                let length = if refusal.number == refusal::TOO_MANY_INSTANCES {
+                    self.random.between(refusal.place + 1, file.len())
+                } else {
+                    file.len()
+                };
+                let case = self.any_isolation(file[..length].to_vec());
+                self.store_isolation(&case);
+            }
+            self.store_check(&file[..refusal.place]);
+        }
+    }
+
+    /// Accepted files at the limits, with readings, and cuts of them.
+    fn limits(&mut self) {
+        let files = [
+            large::register_instances(1_024, 1),
+            large::register_instances(1_024, 255),
+            large::node_instances(256),
+            large::captures(0),
+            large::deep_expressions(),
+            large::children(1, false),
+            large::children(1, true),
+            large::children(large::MOST_CHILDREN, true),
+            large::full_counts(),
+        ];
+        for file in files {
+            self.store_check(&file);
+            self.store_check(&file[..file.len() - 1]);
+            let Ok(accepted) = Accepted::read(&file) else {
+                continue;
+            };
+            let registers = &accepted.tree.registers;
+            let last = u64::from(registers[registers.len() - 1].id);
+            for id in [1, last, last + 1] {
+                self.store_address(&file, id, 0);
+            }
+            let instances = accepted.tree.register_instances.len();
+            let case = |words: Vec<u64>, room| Case {
+                file: file.clone(),
+                attention_type: large::ATTENTION_TYPE,
+                read: vec![READ; words.len()],
+                words,
+                room,
+            };
+            // One bit with a child, where there are children.
+            self.store_isolation(&case(vec![1 << 63; instances], 2_048 + 5));
+            self.store_isolation(&case(vec![u64::MAX; instances], 8_191));
+            let mut unread = case(vec![u64::MAX; instances], 800);
+            unread.read[instances - 1] = 0;
+            self.store_isolation(&unread);
+            self.store_isolation(&case(vec![0; 2], 800));
+        }
+        // As many records as the station's list holds: 63 of each of 65
+        // instances, and one of the last. Then a byte less.
+        let mut words = vec![1 << 63; 256];
+        words[..65].fill(u64::MAX);
+        let mut case = Case {
+            file: large::children(1, false),
+            attention_type: large::ATTENTION_TYPE,
+            read: vec![READ; 256],
+            words,
+            room: 4_096 * RECORD_BYTES,
+        };
+        self.store_isolation(&case);
+        case.room -= 1;
+        self.store_isolation(&case);
+    }
+
+    fn checks_and_addresses(&mut self) {
+        for case in cases::all() {
+            if case.file.len() <= MOST_OF_A_CASE {
+                self.store_check(&case.file);
+            }
+        }
+        for number in 2..=refusal::CYCLE {
+            if number == refusal::TOO_MANY_INSTANCES {
+                continue;
+            }
+            for _ in 0..30 {
+                let case = generate::aimed_case(&mut self.random, number, Sizes::Small);
+                if case.file.len() <= MOST_OF_A_CASE / 2 {
+                    self.store_check(&case.file);
+                }
+            }
+        }
+        for round in 0..150 {
+            let number = if round % 10 == 0 { round / 10 } else { 0 };
+            let case = generate::aimed_case(&mut self.random, number as u8, Sizes::Small);
+            if case.file.len() > MOST_OF_A_CASE {
+                continue;
+            }
+            let names: Vec<(u64, u8)> = match Accepted::read(&case.file) {
+                Ok(accepted) => {
+                    let instances = accepted.tree.register_instances.iter();
+                    instances
+                        .map(|instance| {
+                            let id = accepted.tree.registers[instance.register].id;
+                            (u64::from(id), instance.number)
+                        })
+                        .collect()
+                }
+                Err(_) => vec![(1, 0)],
+            };
+            let (id, instance) = *self.random.pick(&names);
+            self.store_address(&case.file, id, instance);
+            self.store_address(&case.file, id, instance.wrapping_add(1));
+            self.store_address(&case.file, id ^ 1, instance);
+            let high = 1 << *self.random.pick(&[24, 31, 32, 63]);
+            self.store_address(&case.file, id | high, instance);
+        }
+    }
+
+    /// Files that go on over those stored behind them: too long, or with bytes
+    /// after the last root. Last, since the files are complete then.
+    fn windows(&mut self) {
+        let end = self.bytes.len();
+        let early: Vec<usize> = self
+            .places
+            .iter()
+            .copied()
+            .filter(|place| place + MAX_FILE_BYTES < end)
+            .collect();
+        let full = large::captures(0);
+        let (full, _) = self.place(&full);
+        for round in 0..FEWEST {
+            let place = if round == 0 {
+                full
+            } else {
+                *self.random.pick(&early)
+            };
+            let length = match round % 10 {
+                0 | 1 => MAX_FILE_BYTES + 1,
+                2 => MAX_FILE_BYTES + 2,
+                3 => end - place,
+                4 => MAX_FILE_BYTES,
+                5 => self.random.between(1, MAX_FILE_BYTES),
+                _ => self.random.between(MAX_FILE_BYTES + 1, end - place),
+            };
+            let case = self.any_isolation(self.bytes[place..place + length].to_vec());
+            self.isolation(&case, (place, length));
+            if round % 4 == 0 {
+                let expected = expected_of_check(check(&case.file));
+                self.drafts.push(Draft {
+                    kind: Kind::Check,
+                    selector: 0,
+                    fill: 0,
+                    file: (place, length),
+                    words: Vec::new(),
+                    read: Vec::new(),
+                    list_bytes: 0,
+                    expected,
+                    records: Vec::new(),
+                });
+            }
+        }
+    }
+
+    fn finish(mut self) -> Vec<u8> {
+        let first = self.bytes.len();
+        let size: usize = self.drafts.iter().map(Draft::bytes).sum();
+        self.bytes.reserve(size);
+        for draft in &self.drafts {
+            draft.write(&mut self.bytes);
+        }
+        self.bytes[..8].copy_from_slice(&KEYWORD);
+        self.bytes[8..12].copy_from_slice(&(first as u32).to_be_bytes());
+        self.bytes[12..16].copy_from_slice(&(self.drafts.len() as u32).to_be_bytes());
+        self.bytes
+    }
+}
+
+/// The vectors of a seed: always the same file.
+pub fn build(seed: u64) -> Vec<u8> {
+    let mut writer = Writer {
+        random: Random::new(seed),
+        bytes: vec![0; START_BYTES],
+        places: Vec::new(),
+        whole: HashMap::new(),
+        drafts: Vec::new(),
+        outcomes: [0; HIGHEST_NUMBER as usize + 1],
+    };
+    let b1 = Case {
+        file: large::B1.to_vec(),
+        attention_type: large::ATTENTION_TYPE,
+        words: vec![1 << 63],
+        read: vec![READ],
+        room: 16,
+    };
+    writer.store_isolation(&b1);
+    writer.small_cases();
+    writer.limits();
+    writer.too_many_instances();
+    writer.checks_and_addresses();
+    writer.windows();
+    writer.finish()
+}

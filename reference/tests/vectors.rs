@@ -1,0 +1,82 @@
+//! The vectors, read back, agree with both implementations and keep to what a
+//! reader may count on.
+
+use reference::vectors::{
+    self, address_of_any, expected_of_check, expected_of_pair, Kind, Vector, EXPECTED, MOST_BYTES,
+    MOST_LIST_BYTES, MOST_WORDS,
+};
+use reference::{check, fast, isolate, Refusal};
+
+type Isolate = fn(&[u8], u8, &[u64], &[u8], &mut [u8]) -> Result<(usize, usize), Refusal>;
+
+/// The answer, and the list after the call.
+fn isolated(vector: &Vector, isolate: Isolate) -> ([u32; EXPECTED], Vec<u8>) {
+    let mut list = vec![vector.fill; vector.list_bytes];
+    let answer = isolate(
+        vector.file,
+        vector.selector,
+        &vector.words,
+        vector.read,
+        &mut list,
+    );
+    (expected_of_pair(answer), list)
+}
+
+fn assert_agrees(vector: &Vector) {
+    match vector.kind {
+        Kind::Check => {
+            assert_eq!(expected_of_check(check(vector.file)), vector.expected);
+            assert_eq!(expected_of_check(fast::check(vector.file)), vector.expected);
+        }
+        Kind::Address => {
+            let answer = address_of_any(vector.file, vector.words[0], vector.selector);
+            assert_eq!(expected_of_pair(answer), vector.expected);
+        }
+        Kind::Isolation => {
+            let mut list = vector.records.to_vec();
+            list.resize(vector.list_bytes, vector.fill);
+            let expected = (vector.expected, list);
+            assert_eq!(isolated(vector, isolate), expected);
+            assert_eq!(isolated(vector, fast::isolate), expected);
+        }
+    }
+}
+
+#[test]
+fn vectors_agree_with_the_reference() {
+    for seed in [1, 2] {
+        let bytes = vectors::build(seed);
+        assert!(bytes.len() <= MOST_BYTES, "{} bytes", bytes.len());
+        let vectors = vectors::read(&bytes).unwrap();
+        assert!(vectors.len() >= 3_000);
+
+        let mut outcomes = [0; 20];
+        let mut largest = 0;
+        for vector in &vectors {
+            assert_agrees(vector);
+            assert!(vector.words.len() <= MOST_WORDS && vector.read.len() <= MOST_WORDS);
+            assert!(vector.list_bytes <= MOST_LIST_BYTES);
+            if vector.kind == Kind::Isolation {
+                outcomes[vector.expected[0] as usize] += 1;
+            }
+            largest = largest.max(vector.file.len());
+        }
+        assert!(outcomes.iter().all(|&count| count >= 40), "{outcomes:?}");
+        assert!(largest > 65_536);
+    }
+}
+
+#[test]
+fn a_seed_decides_the_vectors() {
+    assert_eq!(vectors::build(3), vectors::build(3));
+    assert_ne!(vectors::build(3), vectors::build(4));
+}
+
+#[test]
+fn what_is_no_file_of_vectors_is_refused() {
+    let bytes = vectors::build(1);
+    assert!(vectors::read(&bytes[..bytes.len() - 1]).is_none());
+    assert!(vectors::read(&[&bytes[..], &[0]].concat()).is_none());
+    assert!(vectors::read(&bytes[1..]).is_none());
+    assert!(vectors::read(&[]).is_none());
+}
