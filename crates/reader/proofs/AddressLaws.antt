@@ -1,14 +1,17 @@
 -- The checker's answer and the address of a register instance.
-use Prim.Native.Nat.{ℕ, _+_, _*_, _/_, _^_, _≤_, _<_}
-use mathlib.Core.Bool.{Bool, true, false, _&&_}
+use Prim.Native.Nat.{ℕ, _+_, _-_, _/_, _≤_, _<_}
+use mathlib.Core.Bool.{Bool, true, false, cond, _&&_}
 use mathlib.Core.List.{List, [], _∷_, map}
 use mathlib.Core.Logic.{_⊎_, ⊎-elim}
 use mathlib.Core.Path.{_≡_, refl, sym, _∙_, ap, subst}
 use native.Mathlib.Omega.{arith}
 use lib.Dec.{eqb, ltb}
-use lib.ListN.{length, getD, take, drop, replicate, length-map}
+use lib.ListN.{length, getD, take, drop, length-map, length-take, length-drop}
 use borrow.Author.Tests.{eq-eqb, ne-eqb, eqb-true, ltb-true, ltb-false, lt-ltb}
+use Rattle.numbers.specs.BigEndian.{bytesOf}
+use Rattle.numbers.proofs.BigEndianLaws.{Bytes, length-bytes}
 use Rattle.numbers.proofs.Bools.{either, clash, and-left}
+use Rattle.format.specs.Limits.{fileLimit}
 use Rattle.format.specs.Fields.{addressSize}
 use Rattle.format.specs.Lookup.{some, position, at, RegisterEntry, registerEntries, registerNamed, registerPosition}
 use Rattle.format.specs.Parsed.{Parsed, done, refused, making}
@@ -16,7 +19,10 @@ use Rattle.format.specs.Refusals.{CheckValues, refusedWith, AddressValues}
 use Rattle.format.specs.Rules.{Every, FieldsFit}
 use Rattle.format.specs.Tree.{Chip}
 use Rattle.format.specs.Verdict.{verdict, checkOf, check, addressIn, addressOf, address}
-use Rattle.format.proofs.Acceptance.{verdict-out}
+use Rattle.format.proofs.Acceptance.{verdict-out, read-to-end}
+use Rattle.format.proofs.NumberedLaws.{verdict-numbered}
+use Rattle.format.proofs.PlacesLaws.{addresses-again}
+use Rattle.links.proofs.TableLaws.{at-most}
 use Rattle.format.proofs.FaultsLaws.{at-none}
 use Rattle.format.proofs.PositionsLaws.{every-at, at-inside}
 use Rattle.fields.proofs.Parsing.{Found, found, missed}
@@ -132,3 +138,67 @@ module _ (c : Chip) (fit : FieldsFit c) (id number : ℕ) (small : number < 256)
 
       pub address-eight : (n / 2 ≡ 1 → ⊥) → record { number = 0; place = 0; offset = p; size = 8 } ≡ addressIn (at (registerPosition c id number) (registerEntries c))
       address-eight t = let r = entry-is in here (r .0) (r .1) p 8 (r .2) (sym (size-eight (r .0 .type) (λ z. t (r .3 ∙ z))))
+
+-- An address that is found stands in the file.
+module _ (s : List ℕ) (bytes : Bytes s) where
+  part-within : (p n x : ℕ) → 0 < n → take n (drop p s) ≡ bytesOf n x → p + n ≤ length s
+  part-within p n x h e =
+      let l : length (take n (drop p s)) ≡ n = ap length e ∙ length-bytes n x in
+      omega (arith, length-take n (drop p s), length-drop p s)
+
+  size-some : (t : ℕ) → 0 < addressSize t
+  unfolding addressSize
+  size-some t = go (eqb t 1)
+    where
+      go : (b : Bool) → 0 < cond b 4 8
+      go true = omega arith
+      go false = omega arith
+
+  entry-within : {c : Chip} {end : ℕ} → verdict s ≡ done c end → (i : ℕ) {e : RegisterEntry} → at i (registerEntries c) ≡ e ∷ [] → e .instance .place + addressSize (e .type) ≤ length s
+  entry-within {c} {end} v i {e} q =
+      let w : verdict s ≡ done c (length s) = v ∙ ap (done c) (read-to-end s bytes v) in
+      let h = every-at _ i (registerEntries c) (addresses-again s bytes c w) q in
+      part-within (e .instance .place) (addressSize (e .type)) (e .instance .address) (size-some (e .type)) h
+
+  in-within : {c : Chip} {end : ℕ} → verdict s ≡ done c end → (i : ℕ) {o n : ℕ} → record { number = 0; place = 0; offset = o; size = n } ≡ addressIn (at i (registerEntries c)) → o + n ≤ length s
+  unfolding addressIn
+  in-within {c} v i {o} {n} e =
+      ⊎-elim
+      (λ z. let y : _≡_ {A = ℕ} 0 12 = ap (λ a. a .number) (e ∙ ap addressIn z) in absurd (omega arith))
+      (λ z.
+      let a : o ≡ z .0 .instance .place = ap (λ a. a .offset) (e ∙ ap addressIn (z .1)) in
+      let b : n ≡ addressSize (z .0 .type) = ap (λ a. a .size) (e ∙ ap addressIn (z .1)) in
+      omega (arith, entry-within v i (z .1)))
+      (at-most i (registerEntries c))
+
+  of-within : (q : Parsed Chip) → verdict s ≡ q → (id number : ℕ) {o n : ℕ} → record { number = 0; place = 0; offset = o; size = n } ≡ addressOf id number q → o + n ≤ length s
+  unfolding addressOf
+  of-within (done c end) v id number e = in-within v (registerPosition c id number) e
+  of-within (refused k p) v id number e = let z : 0 ≡ k = ap (λ a. a .number) e in absurd (omega (arith, verdict-numbered s v .0))
+
+  pub address-within : (id number : ℕ) {o n : ℕ} → record { number = 0; place = 0; offset = o; size = n } ≡ address s id number → o + n ≤ length s
+  unfolding address
+  address-within id number e = of-within (verdict s) refl id number e
+
+  short-of : (q : Parsed Chip) → verdict s ≡ q → (id number : ℕ) {o n : ℕ} → record { number = 0; place = 0; offset = o; size = n } ≡ addressOf id number q → length s ≤ 65536
+  unfolding addressOf fileLimit
+  short-of (done c end) v id number e = verdict-out s v .short
+  short-of (refused k p) v id number e = let z : 0 ≡ k = ap (λ a. a .number) e in absurd (omega (arith, verdict-numbered s v .0))
+
+  pub address-short : (id number : ℕ) {o n : ℕ} → record { number = 0; place = 0; offset = o; size = n } ≡ address s id number → length s ≤ 65536
+  unfolding address
+  address-short id number e = short-of (verdict s) refl id number e
+
+-- The part of the file that is handed back.
+module _ (s : List ℕ) (id number : ℕ) where
+  pub part-is : {o n : ℕ} {r : List ℕ} → record { number = 0; place = 0; offset = o; size = n } ≡ address s id number → r ≡ take (o + n - o) (drop o s) → r ≡ take (address s id number .size) (drop (address s id number .offset) s)
+  part-is {o} {n} {r} e d =
+      let a : o ≡ address s id number .offset = ap (λ x. x .offset) e in
+      let b : n ≡ address s id number .size = ap (λ x. x .size) e in
+      let z : o + n - o ≡ n = omega arith in
+      d ∙ ap (λ k. take k (drop o s)) (z ∙ b) ∙ ap (λ k. take (address s id number .size) (drop k s)) a
+
+  pub part-none : {k p : ℕ} {r : List ℕ} → record { number = k; place = p; offset = 0; size = 0 } ≡ address s id number → r ≡ [] → r ≡ take (address s id number .size) (drop (address s id number .offset) s)
+  part-none {k} {p} {r} e d =
+      let b : 0 ≡ address s id number .size = ap (λ x. x .size) e in
+      d ∙ ap (λ k. take k (drop (address s id number .offset) s)) b

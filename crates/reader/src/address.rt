@@ -67,3 +67,14 @@ pub fn address(file: &[u8], id: u64, number: u8) -> Address
         LayoutRead::Refused(r) => Address::Refused(r),
     }
 }
+
+// The part of the file that holds the address of a register instance; an empty part where the query refuses.
+pub fn address_part(file: &[u8], id: u64, number: u8) -> &[u8]
+    ensures { λ r. ⌜ now r ≡ take (address (now (file .entry)) id number .size) (drop (address (now (file .entry)) id number .offset) (now (file .entry))) ⌝ }
+{
+    let a = address(file, id, number);
+    match a {
+        Address::At(offset, size) => &file[offset..offset + size],
+        Address::Refused(_) => &file[0..0],
+    }
+}
