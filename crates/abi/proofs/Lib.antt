@@ -1,0 +1,2 @@
+-- The laws of answers as lists.
+pub mod ValuesLaws

@@ -1,0 +1,27 @@
+-- The laws of answers as lists.
+use Prim.Native.Nat.{ℕ, _≤_, _<_}
+use mathlib.Core.List.{List, [], _∷_}
+use mathlib.Core.Path.{_≡_, refl, sym, _∙_, ap}
+use lib.ListN.{length}
+use borrow.Author.Tests.{le-leb, lt-leb}
+use Rattle.tables.specs.Tables.{written}
+use Rattle.tables.proofs.TablesLaws.{written-front}
+use Rattle.abi.specs.Values.{answered}
+
+pub answered-short : (xs out : List ℕ) → length out < length xs → out ≡ answered xs out
+unfolding answered
+answered-short xs out h = rw (lt-leb _ _ h)
+
+pub answered-long : (xs out : List ℕ) → length xs ≤ length out → written out 0 xs ≡ answered xs out
+unfolding answered
+answered-long xs out h = rw (le-leb _ _ h) (written-front out xs h)
+
+-- A refusal's number.
+pub refused-eight : (p : ℕ) (out : List ℕ) {n m : ℕ} → n ≡ m → answered (n ∷ p ∷ 0 ∷ 0 ∷ 0 ∷ 0 ∷ 0 ∷ 0 ∷ []) out ≡ answered (m ∷ p ∷ 0 ∷ 0 ∷ 0 ∷ 0 ∷ 0 ∷ 0 ∷ []) out
+refused-eight p out e = rw e
+
+pub refused-four : (p : ℕ) (out : List ℕ) {n m : ℕ} → n ≡ m → answered (n ∷ p ∷ 0 ∷ 0 ∷ []) out ≡ answered (m ∷ p ∷ 0 ∷ 0 ∷ []) out
+refused-four p out e = rw e
+
+pub answered-as : {A : Type 0} (f : A → List ℕ) (out : List ℕ) {v w : A} {y : List ℕ} → v ≡ w → y ≡ answered (f v) out → y ≡ answered (f w) out
+answered-as f out e d = d ∙ ap (λ x. answered (f x) out) e

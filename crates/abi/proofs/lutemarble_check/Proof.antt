@@ -1,0 +1,31 @@
+use mathlib.Core.Path.{_≡_, sym, _∙_, ap}
+use borrow.Author.Needs.{needs}
+use Rattle.format.specs.Refusals.{checkedValues}
+use Rattle.abi.specs.Values.{checkList}
+use Rattle.abi.proofs.ValuesLaws.{answered-as, refused-eight}
+use Rattle.abi.proofs.lutemarble_check.Statement.{statement}
+use Rattle.abi.proofs.lutemarble_check.Tie as tie
+
+returns : tie.Need-returns
+returns c =
+    answered-as checkList _ (sym (ap checkedValues (c .before .before .before .before .before .c .given .1)) ∙ c .before .before .before .before .before .before .before .check .ensures) (c .before .before .put-eight .ensures)
+
+returns-2 : tie.Need-returns-2
+returns-2 c =
+    answered-as checkList _ (sym (ap checkedValues (c .before .before .before .before .before .before .c2 .given .1)) ∙ c .before .before .before .before .before .before .before .before .check .ensures) (c .before .before .put-eight2 .ensures ∙ refused-eight _ _ (c .before .before .before .number .ensures))
+
+pub lutemarble-check-spec : {M : Type 1} → statement M
+lutemarble-check-spec =
+    tie.close
+    (tie.spec
+    (λ c κs. search needs)
+    (λ c. search needs)
+    (λ c κs. search needs)
+    (λ c. search needs)
+    (λ c κs. search needs)
+    (λ c. search needs)
+    (λ c κs. search needs)
+    (λ c. search needs)
+    returns
+    (λ c. search needs)
+    returns-2)

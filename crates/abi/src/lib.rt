@@ -1,0 +1,84 @@
+// The calls of the library for C and Rust. Each takes any input. An answer goes to a lent list of numbers, in the order of the refusal table's values; a list that is too short for it keeps what it has.
+use format::Address;
+use format::Checked;
+use format::number;
+use reader::address::address;
+use reader::check;
+ghost use mathlib.Core.List.{[], _∷_};
+ghost use mathlib.Core.Path.{_≡_};
+ghost use Rattle.format.specs.Verdict.{check, address};
+ghost use Rattle.abi.specs.Values.{answered, checkList, addressList};
+
+// Four numbers at the front of a list that has room for them.
+fn put_four(out: &mut [u64], a: u64, b: u64, c: u64, d: u64)
+    ensures { λ r. ⌜ now (out .exit) ≡ answered (a ∷ b ∷ c ∷ d ∷ []) (now (out .entry)) ⌝ }
+{
+    if out.len() < 4 {
+        return;
+    }
+    out[0] = a;
+    out[1] = b;
+    out[2] = c;
+    out[3] = d;
+}
+
+// Eight numbers at the front of a list that has room for them.
+fn put_eight(out: &mut [u64], a: u64, b: u64, c: u64, d: u64, e: u64, f: u64, g: u64, h: u64)
+    ensures { λ r. ⌜ now (out .exit) ≡ answered (a ∷ b ∷ c ∷ d ∷ e ∷ f ∷ g ∷ h ∷ []) (now (out .entry)) ⌝ }
+{
+    if out.len() < 8 {
+        return;
+    }
+    out[0] = a;
+    out[1] = b;
+    out[2] = c;
+    out[3] = d;
+    out[4] = e;
+    out[5] = f;
+    out[6] = g;
+    out[7] = h;
+}
+
+// The checker: number, place, model/level, and the counts of registers, register instances, nodes, node instances and roots.
+#[no_mangle]
+pub extern "C" fn lutemarble_check(file: &[u8], out: &mut [u64])
+    ensures { λ r. ⌜ now (out .exit) ≡ answered (checkList (check (now (file .entry)))) (now (out .entry)) ⌝ }
+{
+    let c = check(file);
+    match c {
+        Checked::Accepted(s) => {
+            put_eight(
+                out,
+                0,
+                0,
+                s.model,
+                s.registers as u64,
+                s.register_instances as u64,
+                s.nodes as u64,
+                s.node_instances as u64,
+                s.roots as u64,
+            );
+        }
+        Checked::Refused(r) => {
+            let kind = r.kind;
+            put_eight(out, number(kind) as u64, r.place as u64, 0, 0, 0, 0, 0, 0);
+        }
+    }
+}
+
+// The address query: number, place, offset and size.
+#[no_mangle]
+pub extern "C" fn lutemarble_address(file: &[u8], id: u64, instance: u8, out: &mut [u64])
+    ensures { λ r. ⌜ now (out .exit) ≡ answered (addressList (address (now (file .entry)) id instance)) (now (out .entry)) ⌝ }
+{
+    let a = address(file, id, instance);
+    match a {
+        Address::At(offset, size) => {
+            put_four(out, 0, 0, offset as u64, size as u64);
+        }
+        Address::Refused(r) => {
+            let kind = r.kind;
+            put_four(out, number(kind) as u64, r.place as u64, 0, 0);
+        }
+    }
+}
