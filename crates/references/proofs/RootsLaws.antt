@@ -26,7 +26,9 @@ use Rattle.index.specs.Columns.{nodeKeys}
 use Rattle.index.proofs.Again.{same-done, not-refused}
 use Rattle.links.specs.Links.{rulePlace}
 use Rattle.links.proofs.LinksLaws.{instance-rule-some}
+use Rattle.references.specs.declared.roots.RootEntry.{RootEntry}
 use Rattle.references.specs.FaultsIn.{ruled, rootFaultsIn}
+use Rattle.references.specs.RootIn.{rootPosition, rootOf}
 use Rattle.references.proofs.KeysLaws.{some-out, some-in, position-at, column-at, gathered-same}
 use Rattle.references.proofs.TablesLaws.{same-bool, node-position-in}
 
@@ -132,6 +134,37 @@ module _ (s : List ℕ) (p : ℕ) where
   pub root-typed : {B : Type 0} {w z : ℕ} → refused w z ≡ fieldAt s p 1
       → (before : List Root) (t : Root) (m : ℕ) → rootAt s true before p ≡ done t m → B
   root-typed o before t m e = not-refused o (root-fields before e .2)
+
+-- A root that is read again, and the search for one.
+module _ (s : List ℕ) (p : ℕ) (before : List Root) (t : Root) (m : ℕ) (e : rootAt s true before p ≡ done t m) where
+  module _ {x a : ℕ} (o : done x a ≡ fieldAt s p 1) {id b : ℕ} (d : done id b ≡ fieldAt s a 2) where
+    pub root-again : {number next : ℕ} → done number next ≡ fieldAt s b 1 → _≡_ {A = RootEntry} (record { attention = x; id = id; number = number; next = next }) (rootOf t m)
+    root-again {number} {next} q =
+        let f = root-fields s p before e in
+        let g = same-done o (f .2) in
+        let u : done id b ≡ fieldAt s (f .0) 2 = d ∙ rw (g .1) in
+        let i = same-done u (f .3) in
+        let w : done number next ≡ fieldAt s (f .1) 1 = q ∙ rw (i .1) in
+        let n = same-done w (f .4) in
+        rw (g .0, i .0, n .0, n .1)
+
+module _ (nodes : List ℕ) (attention : ℕ) (t : Root) (m : ℕ) {r : RootEntry} (e : r ≡ rootOf t m) where
+  pub root-found : r .attention ≡ attention → {k : ℕ} → k ≡ positionIn nodes (r .id) (r .number) → (ts : List Root) → k ≡ rootPosition nodes attention (t ∷ ts)
+  unfolding rootPosition
+  root-found h {k} d ts =
+      let a : t .attention ≡ attention = sym (ap (λ x. x .attention) e) ∙ h in
+      let i : r .id ≡ t .id = ap (λ x. x .id) e in
+      let n : r .number ≡ t .number = ap (λ x. x .number) e in
+      rw (eq-eqb (t .attention) attention a) (d ∙ rw (i, n))
+
+  pub root-other : (r .attention ≡ attention → ⊥) → (r .next ≡ m) × ((ts : List Root) → rootPosition nodes attention ts ≡ rootPosition nodes attention (t ∷ ts))
+  unfolding rootPosition
+  root-other h =
+      (ap (λ x. x .next) e, λ ts. rw (ne-eqb (t .attention) attention (λ q. h (ap (λ x. x .attention) e ∙ q))))
+
+pub root-nowhere : (nodes : List ℕ) (attention : ℕ) → 65535 ≡ rootPosition nodes attention []
+unfolding rootPosition
+root-nowhere nodes attention = refl
 
 -- The roots have the same faults by the tables.
 module _ (c : Chip) (fit : FieldsFit c) (unique : NamesUnique c) where

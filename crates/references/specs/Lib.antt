@@ -1,2 +1,3 @@
--- Faults by the tables of a file.
+-- Faults and roots by the tables of a file.
 pub mod FaultsIn
+pub mod RootIn
