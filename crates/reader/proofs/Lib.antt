@@ -7,3 +7,4 @@ pub mod FaultsLaws
 pub mod CycleLaws
 pub mod ExamineLaws
 pub mod AddressLaws
+pub mod PreparedLaws

@@ -1,3 +1,4 @@
 -- What the answers about a whole file stand for.
 pub mod Roots
 pub mod Layout
+pub mod Prepared

@@ -4,12 +4,15 @@ use format::Checked;
 use format::Refusal;
 use format::Summary;
 ghost use mathlib.Core.Path.{_≡_};
+ghost use Rattle.format.specs.declared.Checked.{Checked};
 ghost use Rattle.format.specs.Refusals.{checkedValues};
 ghost use Rattle.format.specs.Verdict.{check};
+ghost use Rattle.reader.specs.Layout.{laidOut, layoutValues};
 
 pub mod address;
 mod faults;
 mod file;
+pub mod prepare;
 mod roots;
 
 // Where a file's sections begin, and what it holds.
@@ -32,20 +35,27 @@ pub enum LayoutRead {
     Refused(Refusal),
 }
 
+// What a layout says that the file holds.
+fn summary(l: Layout) -> Summary
+    ensures { λ r. ⌜ checkedValues (Checked.Accepted r) ≡ layoutValues (laidOut l) ⌝ }
+{
+    Summary {
+        model: l.model,
+        registers: l.registers,
+        register_instances: l.register_instances,
+        nodes: l.nodes,
+        node_instances: l.node_instances,
+        roots: l.roots,
+    }
+}
+
 // The checker: what an accepted file holds, or the refusal that the rules name first. It reads the file three times: its layout, its tables, and its names.
 pub fn check(file: &[u8]) -> Checked
     ensures { λ r. ⌜ checkedValues r ≡ check (now (file .entry)) ⌝ }
 {
     let e = examine(file);
     match e {
-        LayoutRead::Done(l) => Checked::Accepted(Summary {
-            model: l.model,
-            registers: l.registers,
-            register_instances: l.register_instances,
-            nodes: l.nodes,
-            node_instances: l.node_instances,
-            roots: l.roots,
-        }),
+        LayoutRead::Done(l) => Checked::Accepted(summary(l)),
         LayoutRead::Refused(r) => Checked::Refused(r),
     }
 }

@@ -6,7 +6,9 @@ use mathlib.Core.Path.{_≡_, refl, sym, ap, _∙_}
 use native.Mathlib.Nat.{add-suc}
 use native.Mathlib.Omega.{arith}
 use lib.Dec.{eqb}
-use lib.ListN.{length, take, drop, getD, set, length-set}
+use native.Mathlib.Numerals.{add-one}
+use lib.ListN.{length, take, drop, getD, set, length-set, drop-of-length-le}
+use lib.Seq.{drop-cons}
 use borrow.Author.Tests.{eq-eqb, ne-eqb}
 use Rattle.format.specs.Lookup.{position}
 use Rattle.tables.specs.Tables.{keyOf, written}
@@ -59,3 +61,13 @@ unfolding written
 written-front t [] h = refl
 written-front [] (x ∷ xs) h = absurd (omega arith)
 written-front (y ∷ t) (x ∷ xs) h = written-behind x t 0 xs ∙ ap (λ u. x ∷ u) (written-front t xs (omega arith))
+
+-- Copying, number after number.
+
+pub copied-next : (xs t : List ℕ) (i : ℕ) {u : List ℕ} → i < length xs → u ≡ set t i (getD xs i 0) → written u (i + 1) (drop (i + 1) xs) ≡ written t i (drop i xs)
+unfolding written
+copied-next xs t i h e = rw (e, drop-cons xs i 0 h, add-one)
+
+pub copied-end : (xs t : List ℕ) (i : ℕ) → length xs ≤ i → written t i (drop i xs) ≡ t
+unfolding written
+copied-end xs t i h = rw (drop-of-length-le xs h)

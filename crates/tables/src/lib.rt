@@ -3,7 +3,7 @@ ghost use mathlib.Core.Path.{_≡_};
 ghost use lib.Dec.{eqb};
 ghost use lib.ListN.{getD, set};
 ghost use Rattle.format.specs.Lookup.{position};
-ghost use Rattle.tables.specs.Tables.{keyOf};
+ghost use Rattle.tables.specs.Tables.{keyOf, written};
 
 // What the name of a register instance or a node instance is kept as: its ID and its number in one.
 pub fn key(id: u64, number: u8) -> u64
@@ -43,4 +43,15 @@ pub fn entry(table: &[u64], k: usize) -> u64
         return table[k];
     }
     0
+}
+
+// The numbers of one table to the front of another. It reads each once.
+pub fn copy(from: &[u64], to: &mut [u64])
+    ensures { λ r. ⌜ now (to .exit) ≡ written (now (to .entry)) 0 (now (from .entry)) ⌝ }
+{
+    let mut i = 0;
+    while i < from.len() {
+        put(to, i, from[i]);
+        i += 1;
+    }
 }

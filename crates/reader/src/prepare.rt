@@ -1,0 +1,92 @@
+// The tables that isolation works with, from a file and a wanted attention type.
+use crate::Layout;
+use crate::LayoutRead;
+use crate::file::examine;
+use crate::summary;
+use format::Checked;
+use index::node_rows::fill_nodes;
+use index::register_rows::fill_registers;
+use links::fill_children;
+use links::fill_rules;
+use references::roots::root_position;
+use tables::copy;
+use tables::put;
+ghost use Prim.Native.Nat.{ℕ};
+ghost use mathlib.Core.Bool.{true};
+ghost use mathlib.Core.Path.{_≡_};
+ghost use Rattle.format.specs.FileLayout.{rootsAt, fileAt};
+ghost use Rattle.format.specs.Parsed.{done};
+ghost use Rattle.format.specs.Refusals.{checkedValues};
+ghost use Rattle.format.specs.Tree.{Chip};
+ghost use Rattle.format.specs.Verdict.{verdict, check};
+ghost use Rattle.index.specs.Columns.{registerKeys, nodeKeys, nodePlaces};
+ghost use Rattle.reader.specs.Layout.{laidOut, layoutAt};
+ghost use Rattle.reader.specs.Prepared.{Lent, filledFor, prepared};
+
+// The lent tables, from the tables of a file that was read before. It reads the nodes section twice.
+fn fill_lent(
+    s: &[u8],
+    roots_at: usize,
+    attention: u8,
+    keys: &[u64],
+    names: &[u64],
+    places: &[u64],
+    registers: &mut [u64],
+    nodes: &mut [u64],
+    rules: &mut [u64],
+    children: &mut [u16],
+    root: &mut [u64],
+)
+    ensures { λ r. ⌜ ((c : Chip) (end : ℕ) → fileAt (now (s .entry)) true 0 ≡ done c end → rootsAt (now (s .entry)) true «roots_at» ≡ done (c .roots) end → now (keys .entry) ≡ registerKeys c → now (names .entry) ≡ nodeKeys c → now (places .entry) ≡ nodePlaces c → _≡_ {A = Lent} (record { registers = now (registers .exit); nodes = now (nodes .exit); rules = now (rules .exit); children = now (children .exit); root = now (root .exit) }) (filledFor attention c (record { registers = now (registers .entry); nodes = now (nodes .entry); rules = now (rules .entry); children = now (children .entry); root = now (root .entry) }))) ⌝ }
+{
+    copy(keys, registers);
+    copy(names, nodes);
+    fill_rules(s, places, attention, rules);
+    fill_children(s, places, names, children);
+    let k = root_position(s, roots_at, attention, names);
+    put(root, 0, k as u64);
+}
+
+// The lent tables of a file whose layout was read.
+fn fill_laid(
+    s: &[u8],
+    l: Layout,
+    attention: u8,
+    registers: &mut [u64],
+    nodes: &mut [u64],
+    rules: &mut [u64],
+    children: &mut [u16],
+    root: &mut [u64],
+)
+    ensures { λ r. ⌜ ((c : Chip) → done (laidOut l) (l .end) ≡ layoutAt (now (s .entry)) 0 → fileAt (now (s .entry)) true 0 ≡ done c (l .end) → _≡_ {A = Lent} (record { registers = now (registers .exit); nodes = now (nodes .exit); rules = now (rules .exit); children = now (children .exit); root = now (root .exit) }) (filledFor attention c (record { registers = now (registers .entry); nodes = now (nodes .entry); rules = now (rules .entry); children = now (children .entry); root = now (root .entry) }))) ⌝ }
+{
+    let m = l.register_instances;
+    let n = l.node_instances;
+    if format::REGISTER_LIMIT < m {
+        return;
+    }
+    if format::NODE_LIMIT < n {
+        return;
+    }
+    let mut keys = [0u64; format::REGISTER_LIMIT];
+    let mut kinds = [0u64; format::REGISTER_LIMIT];
+    let mut spots = [0u64; format::REGISTER_LIMIT];
+    fill_registers(s, l.registers_at, &mut keys, &mut kinds, &mut spots);
+    let mut names = [0u64; format::NODE_LIMIT];
+    let mut wanted = [0u64; format::NODE_LIMIT];
+    let mut places = [0u64; format::NODE_LIMIT];
+    fill_nodes(s, l.nodes_at, &mut names, &mut wanted, &mut places);
+    fill_lent(
+        s,
+        l.roots_at,
+        attention,
+        &keys[..m],
+        &names[..n],
+        &places[..n],
+        registers,
+        nodes,
+        rules,
+        children,
+        root,
+    );
+}
