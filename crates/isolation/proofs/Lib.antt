@@ -4,4 +4,5 @@ pub mod WriteLaws
 pub mod GraphsLaws
 pub mod ChipLaws
 pub mod OutcomeLaws
+pub mod ActivityLaws
 mod SamplesHold
