@@ -97,15 +97,22 @@ unfolding ruleFor
 rule-cases P attention i h = rules-cases P attention (i .rules) h
 
 module _ (s keys words read : List ℕ) (attention : ℕ) (e : NodeEntry) where
-  no-rule : ruleFor attention (e .instance) ≡ [] → (activeWord keys words read attention e ≡ 0) × (unreadPlace keys read attention e ≡ 0)
+  pub no-rule : ruleFor attention (e .instance) ≡ [] → (activeWord keys words read attention e ≡ 0) × (unreadPlace keys read attention e ≡ 0)
   unfolding activeWord unreadPlace ruleWord gathered firstPlace
   no-rule q = (rw q, rw q)
 
-  one-rule : (r : Rule) → ruleFor attention (e .instance) ≡ r ∷ []
-      → (activeWord keys words read attention e ≡ activityOf keys words read (r .expression) .word)
-      × (unreadPlace keys read attention e ≡ activityOf keys words read (r .expression) .unread)
-  unfolding activeWord unreadPlace ruleWord activityOf
+  pub one-rule : (r : Rule) → ruleFor attention (e .instance) ≡ r ∷ []
+      → (activeWord keys words read attention e ≡ exprWord keys words read (r .expression)) × (unreadPlace keys read attention e ≡ firstPlace (unreadBy keys read (r .expression)))
+  unfolding activeWord unreadPlace ruleWord
   one-rule r q = (rw q, rw q (ap firstPlace (gathered-one (λ r. unreadBy keys read (r .expression)) r)))
+
+  word-of : (x : Expr) {a : Activity} → a ≡ activityOf keys words read x → a .word ≡ exprWord keys words read x
+  unfolding activityOf
+  word-of x d = ap (λ y. y .word) d
+
+  place-of : (x : Expr) {a : Activity} → a ≡ activityOf keys words read x → a .unread ≡ firstPlace (unreadBy keys read x)
+  unfolding activityOf
+  place-of x d = ap (λ y. y .unread) d
 
   -- What the code finds at the place of the rule.
   pub entry-active : RulesAgain s e → {p : ℕ} → p ≡ rulePlace attention (e .instance .rules) → {a : Activity} → (p ≡ 0 → a ≡ inactive)
@@ -122,7 +129,7 @@ module _ (s keys words read : List ℕ) (attention : ℕ) (e : NodeEntry) where
       let w : p ≡ r .place = place ∙ z .2 in
       let d = some (r .expression) (z .1 .next) (λ q. z .1 .placed (sym w ∙ q)) (rw w (z .1 .read)) in
       let o = one-rule r (z .3) in
-      (ap (λ x. x .word) d ∙ sym (o .0), ap (λ x. x .unread) d ∙ sym (o .1)))
+      (word-of (r .expression) d ∙ sym (o .0), place-of (r .expression) d ∙ sym (o .1)))
       (rule-cases (RuleAgain s) attention (e .instance) again)
 
 -- A column, entry after entry

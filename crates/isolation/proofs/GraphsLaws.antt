@@ -172,7 +172,7 @@ finished-done g root h l i k = rw (lt-ltb root _ h, getD-tabulate 256 _ i (omega
     go false = (other (eqb i root), λ d. clash d refl)
 
 module _ (g : Graph) (root : ℕ) (m : List ℕ) (done : DoneReached g root m) where
-  done-is : (i : ℕ) → i < g .size → isDone m i ≡ reachedFrom g root i
+  pub done-is : (i : ℕ) → i < g .size → isDone m i ≡ reachedFrom g root i
   unfolding isDone
   done-is i l = same-truth _ _ (λ e. done i l .0 (eqb-true _ 2 e)) (λ e. eq-eqb _ 2 (done i l .1 e))
 

@@ -5,4 +5,6 @@ pub mod GraphsLaws
 pub mod ChipLaws
 pub mod OutcomeLaws
 pub mod ActivityLaws
+pub mod TablesLaws
+pub mod UnreadLaws
 mod SamplesHold
