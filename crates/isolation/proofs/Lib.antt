@@ -7,4 +7,5 @@ pub mod OutcomeLaws
 pub mod ActivityLaws
 pub mod TablesLaws
 pub mod UnreadLaws
+pub mod AnswerLaws
 mod SamplesHold

@@ -194,17 +194,17 @@ module _ (keys marks act ch : List ℕ) (n bytes : ℕ) (size : n ≡ sizeOf act
   unfit-keys m h = rw (← size, le-leb _ _ m, lt-leb _ _ h)
 
   module _ (m : n ≤ length marks) (k : n ≤ length keys) {c : ℕ} (e : c ≡ length (rowsTo (tableGraph act ch) marks n)) where
-    fit : listingOf keys marks act ch bytes ≡ roomFor c bytes
+    pub room-is : listingOf keys marks act ch bytes ≡ roomFor c bytes
     unfolding listingOf holds
-    fit = rw (← size, le-leb _ _ m, le-leb _ _ k, e)
+    room-is = rw (← size, le-leb _ _ m, le-leb _ _ k, e)
 
     pub room-yes : c ≤ bytes / 8 → Listing.Written c ≡ listingOf keys marks act ch bytes
     unfolding roomFor recordSize
-    room-yes h = sym (fit ∙ rw (le-leb _ _ h))
+    room-yes h = sym (room-is ∙ rw (le-leb _ _ h))
 
     pub room-no : bytes / 8 < c → Listing.NoRoom c ≡ listingOf keys marks act ch bytes
     unfolding roomFor recordSize
-    room-no h = sym (fit ∙ rw (lt-leb _ _ h))
+    room-no h = sym (room-is ∙ rw (lt-leb _ _ h))
 
 -- What was written from the front on.
 pub written-front : {old new bs : List ℕ} {next : ℕ} → Wrote old new 0 next bs → new ≡ bs ++ drop (length bs) old
