@@ -1,13 +1,14 @@
 -- The laws of the code that finds active bits and unread registers.
 use Prim.Native.Nat.{ℕ, zero, suc, _+_, _-_, _≤_, _<_}
 use mathlib.Core.Bool.{Bool, true, false, not, _||_}
-use mathlib.Core.List.{List, [], _∷_, _++_, map}
+use mathlib.Core.List.{List, [], _∷_, _++_, map, map-append}
 use mathlib.Core.Logic.{_⊎_, inl, inr, ⊎-elim}
 use mathlib.Core.Path.{_≡_, refl, sym, _∙_, ap, subst}
 use native.Mathlib.Numerals.{add-one}
 use native.Mathlib.Omega.{arith}
 use lib.Dec.{ltb, eqb}
-use lib.ListN.{length, getD, set, take, length-map}
+use lib.ListN.{length, getD, set, take, length-map, length-take}
+use lib.Seq.{take-all, take-add}
 use borrow.Author.Tests.{eq-eqb, ne-eqb, le-ltb, lt-ltb}
 use Rattle.numbers.proofs.Bools.{either, clash}
 use Rattle.format.specs.ExpressionLayout.{exprAt}
@@ -96,7 +97,7 @@ pub rule-cases : (P : Rule → Type 0) (attention : ℕ) (i : NodeInstance) → 
 unfolding ruleFor
 rule-cases P attention i h = rules-cases P attention (i .rules) h
 
-module _ (s keys words read : List ℕ) (attention : ℕ) (e : NodeEntry) where
+module _ (keys words read : List ℕ) (attention : ℕ) (e : NodeEntry) where
   pub no-rule : ruleFor attention (e .instance) ≡ [] → (activeWord keys words read attention e ≡ 0) × (unreadPlace keys read attention e ≡ 0)
   unfolding activeWord unreadPlace ruleWord gathered firstPlace
   no-rule q = (rw q, rw q)
@@ -115,10 +116,10 @@ module _ (s keys words read : List ℕ) (attention : ℕ) (e : NodeEntry) where
   place-of x d = ap (λ y. y .unread) d
 
   -- What the code finds at the place of the rule.
-  pub entry-active : RulesAgain s e → {p : ℕ} → p ≡ rulePlace attention (e .instance .rules) → {a : Activity} → (p ≡ 0 → a ≡ inactive)
+  pub entry-active : (s : List ℕ) → RulesAgain s e → {p : ℕ} → p ≡ rulePlace attention (e .instance .rules) → {a : Activity} → (p ≡ 0 → a ≡ inactive)
       → ((x : Expr) (m : ℕ) → (p ≡ 0 → ⊥) → exprAt s levels p ≡ done x m → a ≡ activityOf keys words read x)
       → (a .word ≡ activeWord keys words read attention e) × (a .unread ≡ unreadPlace keys read attention e)
-  entry-active again {p} place {a} none some =
+  entry-active s again {p} place {a} none some =
       ⊎-elim
       (λ z.
       let d = none (place ∙ z .0) in
@@ -134,25 +135,12 @@ module _ (s keys words read : List ℕ) (attention : ℕ) (e : NodeEntry) where
 
 -- A column, entry after entry
 
-take-next : {A : Type 0} (i : ℕ) (xs : List A) {x : A} → at i xs ≡ x ∷ [] → take (suc i) xs ≡ take i xs ++ (x ∷ [])
-take-next i [] q = absurd (let h = inside-at i [] q in omega arith)
-take-next zero (y ∷ xs) q = sym (at-first y xs) ∙ q
-take-next (suc i) (y ∷ xs) q = ap (λ r. y ∷ r) (take-next i xs (sym (at-next i y xs) ∙ q))
-
-map-append : {A : Type 0} (f : A → ℕ) (xs ys : List A) → map f (xs ++ ys) ≡ map f xs ++ map f ys
-map-append f [] ys = refl
-map-append f (x ∷ xs) ys = ap (λ r. f x ∷ r) (map-append f xs ys)
-
 taken : {A : Type 0} (f : A → ℕ) (i : ℕ) (xs : List A) {x : A} → at i xs ≡ x ∷ [] → length (map f (take i xs)) ≡ i
-taken f i [] q = absurd (let h = inside-at i [] q in omega arith)
-taken f zero (y ∷ xs) q = refl
-taken f (suc i) (y ∷ xs) q = ap suc (taken f i xs (sym (at-next i y xs) ∙ q))
+taken f i xs q = omega (arith, length-map (take i xs) f, length-take i xs, inside-at i xs q)
 
-take-all : {A : Type 0} (i : ℕ) (xs : List A) → length xs ≤ i → take i xs ≡ xs
-take-all zero [] h = refl
-take-all (suc i) [] h = refl
-take-all zero (x ∷ xs) h = absurd (omega arith)
-take-all (suc i) (x ∷ xs) h = ap (λ r. x ∷ r) (take-all i xs (omega arith))
+take-next : {A : Type 0} (i : ℕ) (xs : List A) {x : A} → at i xs ≡ x ∷ [] → take (i + 1) xs ≡ take i xs ++ (x ∷ [])
+unfolding at
+take-next i xs q = take-add i 1 xs ∙ ap (λ y. take i xs ++ y) q
 
 one-written : (t : List ℕ) (k x : ℕ) → written t k (x ∷ []) ≡ set t k x
 unfolding written
@@ -162,11 +150,10 @@ column-next : {A : Type 0} (f : A → ℕ) (i : ℕ) (xs : List A) {x : A} → a
     → t ≡ written t₀ 0 (map f (take i xs)) → u ≡ set t i v → v ≡ f x → u ≡ written t₀ 0 (map f (take (i + 1) xs))
 column-next f i xs {x} q t₀ {t} {u} {v} e d w =
     let n : 0 + length (map f (take i xs)) ≡ i = omega (arith, taken f i xs q) in
-    let l : written t₀ 0 (map f (take (suc i) xs)) ≡ written (written t₀ 0 (map f (take i xs))) (0 + length (map f (take i xs))) (f x ∷ []) =
+    let l : written t₀ 0 (map f (take (i + 1) xs)) ≡ written (written t₀ 0 (map f (take i xs))) (0 + length (map f (take i xs))) (f x ∷ []) =
     ap (λ y. written t₀ 0 (map f y)) (take-next i xs q) ∙ ap (written t₀ 0) (map-append f (take i xs) (x ∷ [])) ∙ written-append t₀ 0 (map f (take i xs)) (f x ∷ []) in
-    rw add-one
-    (d ∙ ap (λ y. set y i v) e ∙ ap (set (written t₀ 0 (map f (take i xs))) i) w
-    ∙ sym (l ∙ ap (λ k. written (written t₀ 0 (map f (take i xs))) k (f x ∷ [])) n ∙ one-written _ i (f x)))
+    d ∙ ap (λ y. set y i v) e ∙ ap (set (written t₀ 0 (map f (take i xs))) i) w
+    ∙ sym (l ∙ ap (λ k. written (written t₀ 0 (map f (take i xs))) k (f x ∷ [])) n ∙ one-written _ i (f x))
 
 column-none : {A : Type 0} (f : A → ℕ) (xs : List A) (t : List ℕ) → t ≡ written t 0 (map f (take 0 xs))
 unfolding written
@@ -191,7 +178,7 @@ module _ (s rules keys words read : List ℕ) where
               let l : length rules ≡ length es = ap length e ∙ length-map es (λ e. rulePlace attention (e .instance .rules)) in
               let d = at-inside i es (omega arith) in
               let w : getD rules i 0 ≡ rulePlace attention (d .0 .instance .rules) = ap (λ r. getD r i 0) e ∙ column-at (λ e. rulePlace attention (e .instance .rules)) es i (d .1) in
-              let g = entry-active s keys words read attention (d .0) (every-at (RulesAgain s) i es again (d .1)) w none some in
+              let g = entry-active keys words read attention (d .0) s (every-at (RulesAgain s) i es again (d .1)) w none some in
               let r = f .filled attention es again e in
               (column-next (activeWord keys words read attention) i es (d .1) a₀ (r .0) p (g .0), column-next (unreadPlace keys read attention) i es (d .1) u₀ (r .1) q (g .1));
         }

@@ -123,9 +123,9 @@ module _ (c : Chip) (meets : Meets c) where
     entry-bit b e h =
         ⊎-elim
         (λ z.
-        ap (λ x. bitOf 64 x b) (no-rule [] (registerKeys c) words read attention e (z .1) .0) ∙ bit-none 64 b ∙ sym (entry-none b e (z .1)))
+        ap (λ x. bitOf 64 x b) (no-rule (registerKeys c) words read attention e (z .1) .0) ∙ bit-none 64 b ∙ sym (entry-none b e (z .1)))
         (λ z.
-        ap (λ x. bitOf 64 x b) (one-rule [] (registerKeys c) words read attention e (z .0) (z .3) .0) ∙ rule-bit words read b (z .0) (z .1)
+        ap (λ x. bitOf 64 x b) (one-rule (registerKeys c) words read attention e (z .0) (z .3) .0) ∙ rule-bit words read b (z .0) (z .1)
         ∙ sym (entry-one b e (z .0) (z .3)))
         (rule-cases (λ r. ExprFits (r .expression)) attention (e .instance) h)
 

@@ -40,7 +40,7 @@ fn active_at(s: &[u8], at: usize, keys: &[u64], words: &[u64], read: &[u8]) -> A
 }
 
 // The active bits of each node instance from the front of `active` on, and the place of the first reading without a value in its rule from the front of `unread` on;
-// `rules` are the places of the rules' expressions. It reads each of these expressions once.
+// `rules` are the places of the rules' expressions. It reads each of these expressions once, and looks up each register that they name once.
 pub fn fill_active(
     s: &[u8],
     rules: &[u64],
