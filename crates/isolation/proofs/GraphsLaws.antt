@@ -24,7 +24,7 @@ use Rattle.walk.specs.Marks.{finished}
 use Rattle.walk.proofs.Step.{getD-tabulate}
 use Rattle.walk.proofs.WalkLaws.{reached-inside}
 use Rattle.isolation.specs.Records.{recordOf, recordBytes, listing, linkRecord, recordsOf}
-use Rattle.isolation.specs.Rows.{shown, bitsTo, isDone, rowLinks, rowsTo, bitRecords, rowRecords, rowsRecords}
+use Rattle.isolation.specs.Rows.{shown, bitsTo, isDone, rowLinks, rowsTo, bitRecords, keyId, keyNumber, rowRecords, rowsRecords}
 use Rattle.isolation.proofs.WriteLaws.{record-length}
 
 abbrev link : ℕ → ℕ → Link
@@ -172,7 +172,7 @@ finished-done g root h l i k = rw (lt-ltb root _ h, getD-tabulate 256 _ i (omega
     go false = (other (eqb i root), λ d. clash d refl)
 
 module _ (g : Graph) (root : ℕ) (m : List ℕ) (done : DoneReached g root m) where
-  done-is : (i : ℕ) → i < g .size → isDone m i ≡ reachedFrom g root i
+  pub done-is : (i : ℕ) → i < g .size → isDone m i ≡ reachedFrom g root i
   unfolding isDone
   done-is i l = same-truth _ _ (λ e. done i l .0 (eqb-true _ 2 e)) (λ e. eq-eqb _ 2 (done i l .1 e))
 
@@ -189,10 +189,10 @@ module _ (g : Graph) (root : ℕ) (m : List ℕ) (done : DoneReached g root m) w
   unfolding rowsTo listing
   rows-listing = gathered-same _ _ (below (g .size)) (every-below _ (g .size) row-is)
 
-  -- Tables of node IDs and instance numbers that hold those of a chip's node instances.
-  module _ (c : Chip) (attention : ℕ) (ids numbers : List ℕ) (size : g .size ≡ length (nodeEntries c))
-      (tells : (i : ℕ) (e : NodeEntry) → at i (nodeEntries c) ≡ e ∷ [] → (getD ids i 0 ≡ e .id) × (getD numbers i 0 ≡ e .instance .number)) where
-    link-is : (i b : ℕ) → i < g .size → linkRecord c attention (link i b) ≡ recordOf attention b (getD ids i 0) (getD numbers i 0)
+  -- A table of keys that hold the IDs and numbers of a chip's node instances.
+  module _ (c : Chip) (attention : ℕ) (keys : List ℕ) (size : g .size ≡ length (nodeEntries c))
+      (tells : (i : ℕ) (e : NodeEntry) → at i (nodeEntries c) ≡ e ∷ [] → (keyId (getD keys i 0) ≡ e .id) × (keyNumber (getD keys i 0) ≡ e .instance .number)) where
+    link-is : (i b : ℕ) → i < g .size → linkRecord c attention (link i b) ≡ recordOf attention b (keyId (getD keys i 0)) (keyNumber (getD keys i 0))
     unfolding linkRecord
     link-is i b l =
         let r = at-inside i (nodeEntries c) (omega arith) in
@@ -200,27 +200,27 @@ module _ (g : Graph) (root : ℕ) (m : List ℕ) (done : DoneReached g root m) w
         rw (r .1, t .0, t .1) (gathered-one (recordBytes attention b) (r .0) ∙ bytes-is attention b (r .0))
 
     bits-are : (i : ℕ) → i < g .size → (bs : List ℕ)
-        → bitRecords attention (getD ids i 0) (getD numbers i 0) bs ≡ gathered (λ b. linkRecord c attention (link i b)) bs
+        → bitRecords attention (keyId (getD keys i 0)) (keyNumber (getD keys i 0)) bs ≡ gathered (λ b. linkRecord c attention (link i b)) bs
     unfolding bitRecords
     bits-are i l bs = gathered-same _ _ bs (every-all _ (λ b. sym (link-is i b l)) bs)
 
-    row-records : (i : ℕ) → i < g .size → rowRecords attention ids numbers g m i ≡ recordsOf c attention (map (link i) (listedOf g root i))
+    row-records : (i : ℕ) → i < g .size → rowRecords attention keys g m i ≡ recordsOf c attention (map (link i) (listedOf g root i))
     unfolding rowRecords recordsOf gathered
     row-records i l =
         rw (listed-of g root i, done-is i l)
         (go (reachedFrom g root i)
         ∙ sym (gathered-map (linkRecord c attention) (link i) (cond (reachedFrom g root i) (bitsTo g i 64) [])))
       where
-        go : (t : Bool) → cond t (bitRecords attention (getD ids i 0) (getD numbers i 0) (bitsTo g i 64)) []
+        go : (t : Bool) → cond t (bitRecords attention (keyId (getD keys i 0)) (keyNumber (getD keys i 0)) (bitsTo g i 64)) []
             ≡ gathered (λ b. linkRecord c attention (link i b)) (cond t (bitsTo g i 64) [])
         go true = bits-are i l (bitsTo g i 64)
         go false = refl
 
     -- The records of all done node instances are those of the listing.
-    pub rows-records-listing : (n : ℕ) → n ≡ length (nodeEntries c) → rowsRecords attention ids numbers g m n ≡ recordsOf c attention (listing g root)
+    pub rows-records-listing : (n : ℕ) → n ≡ length (nodeEntries c) → rowsRecords attention keys g m n ≡ recordsOf c attention (listing g root)
     unfolding rowsRecords listing
     rows-records-listing n e =
-        ap (λ k. gathered (rowRecords attention ids numbers g m) (below k)) (e ∙ sym size)
+        ap (λ k. gathered (rowRecords attention keys g m) (below k)) (e ∙ sym size)
         ∙ gathered-same _ _ (below (g .size)) (every-below _ (g .size) row-records)
         ∙ records-gathered c attention (λ i. map (link i) (listedOf g root i)) (below (g .size))
 

@@ -4,4 +4,8 @@ pub mod WriteLaws
 pub mod GraphsLaws
 pub mod ChipLaws
 pub mod OutcomeLaws
+pub mod ActivityLaws
+pub mod TablesLaws
+pub mod UnreadLaws
+pub mod AnswerLaws
 mod SamplesHold

@@ -24,7 +24,7 @@ use Rattle.isolation.specs.Outcome.{Outcome, refusedOutcome, doneOutcome
 
 -- Unread registers have number 18
 
-abbrev Eighteen : Fault → Type 0
+abbrev pub Eighteen : Fault → Type 0
 Eighteen f = f .number ≡ 18
 
 unless-eighteen : (ok : Bool) (p : ℕ) → Every Eighteen (unless ok 18 p)
@@ -40,7 +40,7 @@ rule-eighteen : (c : Chip) (read : List ℕ) (r : Rule) → Every Eighteen (rule
 unfolding ruleUnread unreadFaults
 rule-eighteen c read r = every-gathered-in Eighteen _ _ (every-all _ (λ n. unless-eighteen _ _) (namedBy (r .expression)))
 
-reached-eighteen : (c : Chip) (attention : ℕ) (read : List ℕ) (g : Graph) (root : ℕ) → Every Eighteen (reachedUnread c attention read g root)
+pub reached-eighteen : (c : Chip) (attention : ℕ) (read : List ℕ) (g : Graph) (root : ℕ) → Every Eighteen (reachedUnread c attention read g root)
 unfolding reachedUnread entryUnread
 reached-eighteen c attention read g root =
     every-gathered-in Eighteen _ (below (g .size)) (every-all _ (λ i. go i (reachedFrom g root i)) (below (g .size)))

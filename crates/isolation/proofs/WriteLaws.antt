@@ -2,7 +2,7 @@
 use mathlib.Core.Path.{_≡_, refl, sym, ap, _∙_}
 use mathlib.Core.Bool.{Bool, true, false, cond}
 use mathlib.Core.List.{List, [], _∷_, _++_, map, append-assoc, append-nil}
-use Prim.Native.Nat.{ℕ, zero, suc, _+_, _-_, _*_, _/_, _≤_, _<_}
+use Prim.Native.Nat.{ℕ, zero, suc, _+_, _-_, _*_, _/_, _%_, _≤_, _<_}
 use native.Mathlib.Nat.{add-zero, zero-add}
 use native.Mathlib.Numerals.{add-one}
 use native.Mathlib.Omega.{arith}
@@ -16,7 +16,7 @@ use Rattle.walk.specs.TableGraph.{sizeOf, tableGraph}
 use Rattle.isolation.specs.declared.Listing
 use Rattle.isolation.specs.declared.Listing.{Listing}
 use Rattle.isolation.specs.Records.{recordOf, recordSize}
-use Rattle.isolation.specs.Rows.{shown, bitsTo, isDone, rowLinks, rowsTo, bitRecords, rowRecords, rowsRecords, Wrote, roomFor, holds, listingOf}
+use Rattle.isolation.specs.Rows.{shown, bitsTo, isDone, rowLinks, rowsTo, bitRecords, keyId, keyNumber, rowRecords, rowsRecords, Wrote, roomFor, holds, listingOf}
 use Rattle.format.proofs.GatheredLaws.{gathered-append, gathered-one}
 use Rattle.isolation.proofs.RowsLaws.{bits-more, row-done, rows-none, rows-more}
 
@@ -105,15 +105,15 @@ module _ (g : Graph) (attention id number i : ℕ) where
         length-append (bitsTo g i b) (kept (shown g i) (b ∷ [])),
       )
 
-module _ (attention : ℕ) (ids numbers : List ℕ) (g : Graph) (marks : List ℕ) where
+module _ (attention : ℕ) (keys : List ℕ) (g : Graph) (marks : List ℕ) where
   -- One node instance.
   pub row-wrote : (i : ℕ) {old new : List ℕ} {at next : ℕ} → getD marks i 0 ≡ 2
-      → Wrote old new at next (bitRecords attention (getD ids i 0) (getD numbers i 0) (bitsTo g i 64))
-      → Wrote old new at next (rowRecords attention ids numbers g marks i)
-  unfolding rowRecords isDone
+      → Wrote old new at next (bitRecords attention (getD keys i 0 / 256 % 65536) (getD keys i 0 % 256) (bitsTo g i 64))
+      → Wrote old new at next (rowRecords attention keys g marks i)
+  unfolding rowRecords isDone keyId keyNumber
   row-wrote i e w = rw (eq-eqb _ 2 e) w
 
-  pub row-kept : (i : ℕ) {old : List ℕ} {at : ℕ} → (getD marks i 0 ≡ 2 → ⊥) → Wrote old old at at (rowRecords attention ids numbers g marks i)
+  pub row-kept : (i : ℕ) {old : List ℕ} {at : ℕ} → (getD marks i 0 ≡ 2 → ⊥) → Wrote old old at at (rowRecords attention keys g marks i)
   unfolding rowRecords isDone
   row-kept i {old} {at} e = rw (ne-eqb _ 2 e) (wrote-none old at)
 
@@ -123,45 +123,45 @@ module _ (attention : ℕ) (ids numbers : List ℕ) (g : Graph) (marks : List �
   row-room i list at e h = omega (arith, row-done g marks i e refl)
 
   -- Node instance after node instance.
-  pub rows-started : {old : List ℕ} → Wrote old old 0 0 (rowsRecords attention ids numbers g marks 0)
+  pub rows-started : {old : List ℕ} → Wrote old old 0 0 (rowsRecords attention keys g marks 0)
   unfolding rowsRecords gathered below
   rows-started {old} = wrote-none old 0
 
-  rows-records : (i : ℕ) → rowsRecords attention ids numbers g marks (i + 1) ≡ rowsRecords attention ids numbers g marks i ++ rowRecords attention ids numbers g marks i
+  rows-records : (i : ℕ) → rowsRecords attention keys g marks (i + 1) ≡ rowsRecords attention keys g marks i ++ rowRecords attention keys g marks i
   unfolding rowsRecords below
-  rows-records i = rw add-one (gathered-append (rowRecords attention ids numbers g marks) (below i) (i ∷ []) ∙ rw gathered-one)
+  rows-records i = rw add-one (gathered-append (rowRecords attention keys g marks) (below i) (i ∷ []) ∙ rw gathered-one)
 
-  pub rows-wrote : (i : ℕ) {old mid new : List ℕ} {k next : ℕ} → Wrote old mid 0 k (rowsRecords attention ids numbers g marks i)
-      → Wrote mid new k next (rowRecords attention ids numbers g marks i) → next ≤ length old
-      → Wrote old new 0 next (rowsRecords attention ids numbers g marks (i + 1))
+  pub rows-wrote : (i : ℕ) {old mid new : List ℕ} {k next : ℕ} → Wrote old mid 0 k (rowsRecords attention keys g marks i)
+      → Wrote mid new k next (rowRecords attention keys g marks i) → next ≤ length old
+      → Wrote old new 0 next (rowsRecords attention keys g marks (i + 1))
   rows-wrote i x y h = rw (rows-records i) (wrote-more x y h)
 
-  pub rows-finished : (i n : ℕ) {old new : List ℕ} {next : ℕ} → i ≡ n → Wrote old new 0 next (rowsRecords attention ids numbers g marks i)
-      → Wrote old new 0 next (rowsRecords attention ids numbers g marks n)
+  pub rows-finished : (i n : ℕ) {old new : List ℕ} {next : ℕ} → i ≡ n → Wrote old new 0 next (rowsRecords attention keys g marks i)
+      → Wrote old new 0 next (rowsRecords attention keys g marks n)
   rows-finished i n e w = rw (← e) w
 
-  pub row-length : (i : ℕ) → length (rowRecords attention ids numbers g marks i) ≡ 8 * length (rowLinks g marks i)
+  pub row-length : (i : ℕ) → length (rowRecords attention keys g marks i) ≡ 8 * length (rowLinks g marks i)
   unfolding rowRecords rowLinks
   row-length i = go (isDone marks i)
     where
       link : ℕ → Link
       link b = record { instance = i; bit = b }
 
-      go : (t : Bool) → length (cond t (bitRecords attention (getD ids i 0) (getD numbers i 0) (bitsTo g i 64)) []) ≡ 8 * length (cond t (map link (bitsTo g i 64)) [])
-      go true = rw length-map (records-length attention (getD ids i 0) (getD numbers i 0) (bitsTo g i 64))
+      go : (t : Bool) → length (cond t (bitRecords attention (keyId (getD keys i 0)) (keyNumber (getD keys i 0)) (bitsTo g i 64)) []) ≡ 8 * length (cond t (map link (bitsTo g i 64)) [])
+      go true = rw length-map (records-length attention (keyId (getD keys i 0)) (keyNumber (getD keys i 0)) (bitsTo g i 64))
       go false = refl
 
-  pub rows-length : (n : ℕ) → length (rowsRecords attention ids numbers g marks n) ≡ 8 * length (rowsTo g marks n)
+  pub rows-length : (n : ℕ) → length (rowsRecords attention keys g marks n) ≡ 8 * length (rowsTo g marks n)
   rows-length zero = omega (arith, rows-started {old = []} .ends, rows-none g marks)
   rows-length (suc n) =
-      let e : rowsRecords attention ids numbers g marks (suc n) ≡ rowsRecords attention ids numbers g marks (n + 1) = ap (rowsRecords attention ids numbers g marks) (sym (add-one n)) in
+      let e : rowsRecords attention keys g marks (suc n) ≡ rowsRecords attention keys g marks (n + 1) = ap (rowsRecords attention keys g marks) (sym (add-one n)) in
       let d : rowsTo g marks (suc n) ≡ rowsTo g marks (n + 1) = ap (rowsTo g marks) (sym (add-one n)) in
       omega (
         arith,
         ap length e,
         ap length d,
         ap length (rows-records n),
-        length-append (rowsRecords attention ids numbers g marks n) (rowRecords attention ids numbers g marks n),
+        length-append (rowsRecords attention keys g marks n) (rowRecords attention keys g marks n),
         ap length (rows-more g marks n),
         length-append (rowsTo g marks n) (rowLinks g marks n),
         row-length n,
@@ -176,7 +176,7 @@ module _ (attention : ℕ) (ids numbers : List ℕ) (g : Graph) (marks : List �
 
   -- While there is room for all node instances, there is room for the next.
   pub rows-room : (i n : ℕ) {old mid : List ℕ} {k : ℕ} → i < n → 8 * length (rowsTo g marks n) ≤ length old
-      → Wrote old mid 0 k (rowsRecords attention ids numbers g marks i) → k + 8 * length (rowLinks g marks i) ≤ length old
+      → Wrote old mid 0 k (rowsRecords attention keys g marks i) → k + 8 * length (rowLinks g marks i) ≤ length old
   rows-room i n {k = k} h r w =
       let e : i + 1 + (n - 1 - i) ≡ n = omega arith in
       let m : length (rowsTo g marks (i + 1)) ≤ length (rowsTo g marks n) = rw e at (rows-mono (i + 1) (n - 1 - i)) in
@@ -184,31 +184,27 @@ module _ (attention : ℕ) (ids numbers : List ℕ) (g : Graph) (marks : List �
 
 -- Room
 
-module _ (ids numbers marks act ch : List ℕ) (n bytes : ℕ) (size : n ≡ sizeOf act) where
-  pub unfit-marks : length marks < n → Listing.Unfit ≡ listingOf ids numbers marks act ch bytes
+module _ (keys marks act ch : List ℕ) (n bytes : ℕ) (size : n ≡ sizeOf act) where
+  pub unfit-marks : length marks < n → Listing.Unfit ≡ listingOf keys marks act ch bytes
   unfolding listingOf holds
   unfit-marks h = rw (← size, lt-leb _ _ h)
 
-  pub unfit-ids : n ≤ length marks → length ids < n → Listing.Unfit ≡ listingOf ids numbers marks act ch bytes
+  pub unfit-keys : n ≤ length marks → length keys < n → Listing.Unfit ≡ listingOf keys marks act ch bytes
   unfolding listingOf holds
-  unfit-ids m h = rw (← size, le-leb _ _ m, lt-leb _ _ h)
+  unfit-keys m h = rw (← size, le-leb _ _ m, lt-leb _ _ h)
 
-  pub unfit-numbers : n ≤ length marks → n ≤ length ids → length numbers < n → Listing.Unfit ≡ listingOf ids numbers marks act ch bytes
-  unfolding listingOf holds
-  unfit-numbers m i h = rw (← size, le-leb _ _ m, le-leb _ _ i, lt-leb _ _ h)
-
-  module _ (m : n ≤ length marks) (i : n ≤ length ids) (k : n ≤ length numbers) {c : ℕ} (e : c ≡ length (rowsTo (tableGraph act ch) marks n)) where
-    fit : listingOf ids numbers marks act ch bytes ≡ roomFor c bytes
+  module _ (m : n ≤ length marks) (k : n ≤ length keys) {c : ℕ} (e : c ≡ length (rowsTo (tableGraph act ch) marks n)) where
+    pub room-is : listingOf keys marks act ch bytes ≡ roomFor c bytes
     unfolding listingOf holds
-    fit = rw (← size, le-leb _ _ m, le-leb _ _ i, le-leb _ _ k, e)
+    room-is = rw (← size, le-leb _ _ m, le-leb _ _ k, e)
 
-    pub room-yes : c ≤ bytes / 8 → Listing.Written c ≡ listingOf ids numbers marks act ch bytes
+    pub room-yes : c ≤ bytes / 8 → Listing.Written c ≡ listingOf keys marks act ch bytes
     unfolding roomFor recordSize
-    room-yes h = sym (fit ∙ rw (le-leb _ _ h))
+    room-yes h = sym (room-is ∙ rw (le-leb _ _ h))
 
-    pub room-no : bytes / 8 < c → Listing.NoRoom c ≡ listingOf ids numbers marks act ch bytes
+    pub room-no : bytes / 8 < c → Listing.NoRoom c ≡ listingOf keys marks act ch bytes
     unfolding roomFor recordSize
-    room-no h = sym (fit ∙ rw (lt-leb _ _ h))
+    room-no h = sym (room-is ∙ rw (lt-leb _ _ h))
 
 -- What was written from the front on.
 pub written-front : {old new bs : List ℕ} {next : ℕ} → Wrote old new 0 next bs → new ≡ bs ++ drop (length bs) old

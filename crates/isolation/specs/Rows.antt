@@ -1,5 +1,5 @@
 -- The listing as the code goes through it: node instances from 0 up, and of each done one the bits from 0 up.
-use Prim.Native.Nat.{ℕ, _+_, _/_}
+use Prim.Native.Nat.{ℕ, _+_, _/_, _%_}
 use mathlib.Core.Bool.{Bool, cond, _&&_}
 use mathlib.Core.List.{List, [], _++_, map}
 use mathlib.Core.Path.{_≡_}
@@ -36,14 +36,21 @@ rowsTo g marks n = gathered (rowLinks g marks) (below n)
 unfoldable pub bitRecords : ℕ → ℕ → ℕ → List ℕ → List ℕ
 bitRecords attention id number bits = gathered (λ b. recordOf attention b id number) bits
 
--- The records of the node instance i, if it is done, from tables of node IDs and instance numbers.
-unfoldable pub rowRecords : ℕ → List ℕ → List ℕ → Graph → List ℕ → ℕ → List ℕ
-rowRecords attention ids numbers g marks i =
-    cond (isDone marks i) (bitRecords attention (getD ids i 0) (getD numbers i 0) (bitsTo g i 64)) []
+-- The node ID and the instance number that a node instance's key holds.
+unfoldable pub keyId : ℕ → ℕ
+keyId k = k / 256 % 65536
+
+unfoldable pub keyNumber : ℕ → ℕ
+keyNumber k = k % 256
+
+-- The records of the node instance i, if it is done, from a table of the node instances' keys.
+unfoldable pub rowRecords : ℕ → List ℕ → Graph → List ℕ → ℕ → List ℕ
+rowRecords attention keys g marks i =
+    cond (isDone marks i) (bitRecords attention (keyId (getD keys i 0)) (keyNumber (getD keys i 0)) (bitsTo g i 64)) []
 
 -- Those of the first n node instances.
-unfoldable pub rowsRecords : ℕ → List ℕ → List ℕ → Graph → List ℕ → ℕ → List ℕ
-rowsRecords attention ids numbers g marks n = gathered (rowRecords attention ids numbers g marks) (below n)
+unfoldable pub rowsRecords : ℕ → List ℕ → Graph → List ℕ → ℕ → List ℕ
+rowsRecords attention keys g marks n = gathered (rowRecords attention keys g marks) (below n)
 
 -- Some bytes were written at a place: the list before and after, and the place after them.
 pub record Wrote (old new : List ℕ) (at next : ℕ) (bs : List ℕ) : Type 0 where
@@ -60,9 +67,9 @@ unfoldable pub holds : ℕ → List ℕ → Bool
 holds n table = leb n (length table)
 
 -- What is answered of tables and a list of so many bytes.
-unfoldable pub listingOf : List ℕ → List ℕ → List ℕ → List ℕ → List ℕ → ℕ → Listing
-listingOf ids numbers marks act ch bytes =
-    cond (holds (sizeOf act) marks && (holds (sizeOf act) ids && holds (sizeOf act) numbers))
+unfoldable pub listingOf : List ℕ → List ℕ → List ℕ → List ℕ → ℕ → Listing
+listingOf keys marks act ch bytes =
+    cond (holds (sizeOf act) marks && holds (sizeOf act) keys)
     (roomFor (length (rowsTo (tableGraph act ch) marks (sizeOf act))) bytes)
     Listing.Unfit
 

@@ -1,6 +1,7 @@
 // Isolation: which error bits are active, from a chip data file and register readings.
 use format::Refusal;
 
+mod active;
 mod list;
 
 // How many records were written, and how many node instances were reached.
@@ -14,6 +15,12 @@ pub enum Listing {
     Written(usize),
     NoRoom(usize),
     Unfit,
+}
+
+// A word of active bits, and the place of the first reading without a value that its rule has; 0 where it has none.
+pub struct Activity {
+    pub word: u64,
+    pub unread: usize,
 }
 
 // The answer of isolation.

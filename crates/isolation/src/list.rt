@@ -134,25 +134,35 @@ fn put_bits(
     place
 }
 
-// The records of the instance i, if it is done: the place after them.
+// The records of the instance i, if it is done: the place after them. `keys` are the keys of the instances.
 fn put_row(
     list: &mut [u8],
     at: usize,
     attention: u8,
-    ids: &[u16],
-    numbers: &[u8],
+    keys: &[u64],
     marks: &[u8],
     active: &[u64],
     child: &[u16],
     n: usize,
     i: usize,
 ) -> usize
-    requires { ⌜ (n ≡ sizeOf (now active)) × (i < n) × (n ≤ length (now marks)) × (n ≤ length (now ids)) × (n ≤ length (now numbers)) ⌝ }
+    requires { ⌜ (n ≡ sizeOf (now active)) × (i < n) × (n ≤ length (now marks)) × (n ≤ length (now keys)) ⌝ }
     requires { ⌜ at + 8 * length (rowLinks (tableGraph (now active) (now child)) (now marks) i) ≤ length (now list) ⌝ }
-    ensures { λ r. ⌜ Wrote (now (list .entry)) (now (list .exit)) at r (rowRecords attention (now (ids .entry)) (now (numbers .entry)) (tableGraph (now (active .entry)) (now (child .entry))) (now (marks .entry)) i) ⌝ }
+    ensures { λ r. ⌜ Wrote (now (list .entry)) (now (list .exit)) at r (rowRecords attention (now (keys .entry)) (tableGraph (now (active .entry)) (now (child .entry))) (now (marks .entry)) i) ⌝ }
 {
     if marks[i] == 2 {
-        return put_bits(list, at, attention, ids[i], numbers[i], active, child, n, i);
+        let key = keys[i];
+        return put_bits(
+            list,
+            at,
+            attention,
+            (key / 256 % 65536) as u16,
+            (key % 256) as u8,
+            active,
+            child,
+            n,
+            i,
+        );
     }
     at
 }
@@ -161,32 +171,20 @@ fn put_row(
 fn put_rows(
     list: &mut [u8],
     attention: u8,
-    ids: &[u16],
-    numbers: &[u8],
+    keys: &[u64],
     marks: &[u8],
     active: &[u64],
     child: &[u16],
     n: usize,
 ) -> usize
-    requires { ⌜ (n ≡ sizeOf (now active)) × (n ≤ length (now marks)) × (n ≤ length (now ids)) × (n ≤ length (now numbers)) ⌝ }
+    requires { ⌜ (n ≡ sizeOf (now active)) × (n ≤ length (now marks)) × (n ≤ length (now keys)) ⌝ }
     requires { ⌜ 8 * length (rowsTo (tableGraph (now active) (now child)) (now marks) n) ≤ length (now list) ⌝ }
-    ensures { λ r. ⌜ Wrote (now (list .entry)) (now (list .exit)) 0 r (rowsRecords attention (now (ids .entry)) (now (numbers .entry)) (tableGraph (now (active .entry)) (now (child .entry))) (now (marks .entry)) n) ⌝ }
+    ensures { λ r. ⌜ Wrote (now (list .entry)) (now (list .exit)) 0 r (rowsRecords attention (now (keys .entry)) (tableGraph (now (active .entry)) (now (child .entry))) (now (marks .entry)) n) ⌝ }
 {
     let mut place = 0;
     let mut i = 0;
     while i < n {
-        place = put_row(
-            list,
-            place,
-            attention,
-            ids,
-            numbers,
-            marks,
-            active,
-            child,
-            n,
-            i,
-        );
+        place = put_row(list, place, attention, keys, marks, active, child, n, i);
         i += 1;
     }
     place
@@ -196,29 +194,25 @@ fn put_rows(
 pub fn write_list(
     list: &mut [u8],
     attention: u8,
-    ids: &[u16],
-    numbers: &[u8],
+    keys: &[u64],
     marks: &[u8],
     active: &[u64],
     child: &[u16],
 ) -> Listing
-    ensures { λ r. ⌜ r ≡ listingOf (now (ids .entry)) (now (numbers .entry)) (now (marks .entry)) (now (active .entry)) (now (child .entry)) (length (now (list .entry))) ⌝ }
-    ensures { λ r. ⌜ now (list .exit) ≡ listAfter r (rowsRecords attention (now (ids .entry)) (now (numbers .entry)) (tableGraph (now (active .entry)) (now (child .entry))) (now (marks .entry)) (sizeOf (now (active .entry)))) (now (list .entry)) ⌝ }
+    ensures { λ r. ⌜ r ≡ listingOf (now (keys .entry)) (now (marks .entry)) (now (active .entry)) (now (child .entry)) (length (now (list .entry))) ⌝ }
+    ensures { λ r. ⌜ now (list .exit) ≡ listAfter r (rowsRecords attention (now (keys .entry)) (tableGraph (now (active .entry)) (now (child .entry))) (now (marks .entry)) (sizeOf (now (active .entry)))) (now (list .entry)) ⌝ }
 {
     let n = walk::size(active);
     if marks.len() < n {
         return Listing::Unfit;
     }
-    if ids.len() < n {
-        return Listing::Unfit;
-    }
-    if numbers.len() < n {
+    if keys.len() < n {
         return Listing::Unfit;
     }
     let count = count_rows(marks, active, child, n);
     if list.len() / 8 < count {
         return Listing::NoRoom(count);
     }
-    put_rows(list, attention, ids, numbers, marks, active, child, n);
+    put_rows(list, attention, keys, marks, active, child, n);
     Listing::Written(count)
 }

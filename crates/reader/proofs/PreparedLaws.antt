@@ -3,7 +3,9 @@ use Prim.Native.Nat.{ℕ, _*_, _/_, _≤_, _<_}
 use mathlib.Core.Bool.{Bool, true, false, cond, _&&_}
 use mathlib.Core.List.{List, [], _∷_, map}
 use mathlib.Core.Path.{_≡_, refl, sym, _∙_, ap}
+use lib.Dec.{leb}
 use lib.ListN.{length, set}
+use borrow.Author.Tests.{le-leb, lt-leb}
 use Rattle.format.specs.FileLayout.{rootsAt, fileAt}
 use Rattle.format.specs.Lookup.{gathered, NodeEntry, nodeEntries, registerEntries}
 use Rattle.format.specs.Parsed.{Parsed, done, refused}
@@ -15,7 +17,7 @@ use Rattle.index.specs.Columns.{registerKeys, nodeKeys, nodePlaces}
 use Rattle.index.specs.Rows.{ReadAgain, entryPlace}
 use Rattle.links.specs.Links.{rulePlace, childRow}
 use Rattle.references.specs.RootIn.{rootPosition}
-use Rattle.reader.specs.Prepared.{Lent, filledFor, roomFor, prepared}
+use Rattle.reader.specs.Prepared.{Lent, filledFor, roomOf, roomFor, prepared}
 use Rattle.reader.proofs.NameLaws.{entries-again}
 
 module _ (s : List ℕ) (at attention : ℕ) (c : Chip) (end : ℕ) (file : fileAt s true 0 ≡ done c end) (roots : rootsAt s true at ≡ done (c .roots) end)
@@ -32,3 +34,44 @@ module _ (s : List ℕ) (at attention : ℕ) (c : Chip) (end : ℕ) (file : file
       let y = u (nodeEntries c) again ep in
       let z = v (c .roots) end roots in
       rw (p, q, x, y, w, z, ek, en)
+
+-- Room.
+module _ (m n registers nodes rules children root : ℕ) where
+  pub room-registers : registers < m → false ≡ roomOf m n registers nodes rules children root
+  unfolding roomOf
+  room-registers h = rw (lt-leb _ _ h)
+
+  pub room-nodes : m ≤ registers → nodes < n → false ≡ roomOf m n registers nodes rules children root
+  unfolding roomOf
+  room-nodes a h = rw (le-leb _ _ a, lt-leb _ _ h)
+
+  pub room-rules : m ≤ registers → n ≤ nodes → rules < n → false ≡ roomOf m n registers nodes rules children root
+  unfolding roomOf
+  room-rules a b h = rw (le-leb _ _ a, le-leb _ _ b, lt-leb _ _ h)
+
+  pub room-children : m ≤ registers → n ≤ nodes → n ≤ rules → children / 64 < n → false ≡ roomOf m n registers nodes rules children root
+  unfolding roomOf
+  room-children a b d h = rw (le-leb _ _ a, le-leb _ _ b, le-leb _ _ d, lt-leb _ _ h)
+
+  pub room-root : m ≤ registers → n ≤ nodes → n ≤ rules → n ≤ children / 64 → {r : Bool} → r ≡ leb 1 root → r ≡ roomOf m n registers nodes rules children root
+  unfolding roomOf
+  room-root a b d h e = rw (le-leb _ _ a, le-leb _ _ b, le-leb _ _ d, le-leb _ _ h) e
+
+-- The tables after the call.
+module _ (s : List ℕ) (attention : ℕ) (t : Lent) where
+  pub prepared-refused : {n p : ℕ} → verdict s ≡ refused n p → t ≡ prepared attention (verdict s) t
+  unfolding prepared
+  prepared-refused e = rw e
+
+  module _ {c : Chip} {end : ℕ} (v : verdict s ≡ done c end) {m n : ℕ} (registers : m ≡ length (registerEntries c)) (nodes : n ≡ length (nodeEntries c))
+      {r : Bool} (room : r ≡ roomOf m n (length (t .registers)) (length (t .nodes)) (length (t .rules)) (length (t .children)) (length (t .root))) where
+    room-is : r ≡ roomFor c t
+    room-is = room ∙ rw (registers, nodes)
+
+    pub prepared-short : r ≡ false → t ≡ prepared attention (verdict s) t
+    unfolding prepared
+    prepared-short e = let z : roomFor c t ≡ false = sym room-is ∙ e in sym (ap (λ q. prepared attention q t) v ∙ ap (λ b. cond b (filledFor attention c t) t) z)
+
+    pub prepared-filled : r ≡ true → {u : Lent} → u ≡ filledFor attention c t → u ≡ prepared attention (verdict s) t
+    unfolding prepared
+    prepared-filled e {u} d = let z : roomFor c t ≡ true = sym room-is ∙ e in d ∙ sym (ap (λ q. prepared attention q t) v ∙ ap (λ b. cond b (filledFor attention c t) t) z)

@@ -1,5 +1,5 @@
 -- The tables that a caller lends for a file and a wanted attention type.
-use Prim.Native.Nat.{ℕ, _*_}
+use Prim.Native.Nat.{ℕ, _/_}
 use mathlib.Core.Bool.{Bool, cond, _&&_}
 use mathlib.Core.List.{List, [], _∷_, map}
 use lib.Dec.{leb}
@@ -39,13 +39,16 @@ filledFor attention c t =
       root = written (t .root) 0 (rootPosition (nodeKeys c) attention (c .roots) ∷ []);
     }
 
--- Every table is long enough for so many register instances and node instances.
-unfoldable pub roomFor : ℕ → ℕ → Lent → Bool
-roomFor m n t =
-    leb m (length (t .registers))
-    && (leb n (length (t .nodes)) && (leb n (length (t .rules)) && (leb (n * 64) (length (t .children)) && leb 1 (length (t .root)))))
+-- Tables of these lengths are long enough for m register instances and n node instances.
+unfoldable pub roomOf : ℕ → ℕ → ℕ → ℕ → ℕ → ℕ → ℕ → Bool
+roomOf m n registers nodes rules children root = leb m registers && (leb n nodes && (leb n rules && (leb n (children / 64) && leb 1 root)))
+
+-- Every table is long enough for the chip.
+abbrev pub roomFor : Chip → Lent → Bool
+roomFor c t =
+    roomOf (length (registerEntries c)) (length (nodeEntries c)) (length (t .registers)) (length (t .nodes)) (length (t .rules)) (length (t .children)) (length (t .root))
 
 -- The tables after the call: a file that is refused, and a table that is too short, leave all of them as they are.
 unfoldable pub prepared : ℕ → Parsed Chip → Lent → Lent
-prepared attention (done c end) t = cond (roomFor (length (registerEntries c)) (length (nodeEntries c)) t) (filledFor attention c t) t
+prepared attention (done c end) t = cond (roomFor c t) (filledFor attention c t) t
 prepared attention (refused n p) t = t

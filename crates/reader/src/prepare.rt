@@ -21,7 +21,7 @@ ghost use Rattle.format.specs.Tree.{Chip};
 ghost use Rattle.format.specs.Verdict.{verdict, check};
 ghost use Rattle.index.specs.Columns.{registerKeys, nodeKeys, nodePlaces};
 ghost use Rattle.reader.specs.Layout.{laidOut, layoutAt};
-ghost use Rattle.reader.specs.Prepared.{Lent, filledFor, prepared};
+ghost use Rattle.reader.specs.Prepared.{Lent, filledFor, roomOf, prepared};
 
 // The lent tables, from the tables of a file that was read before. It reads the nodes section twice.
 fn fill_lent(
@@ -89,4 +89,64 @@ fn fill_laid(
         children,
         root,
     );
+}
+
+// Whether tables of these lengths are long enough for a file of this layout.
+fn has_room(
+    l: Layout,
+    registers: usize,
+    nodes: usize,
+    rules: usize,
+    children: usize,
+    root: usize,
+) -> bool
+    ensures { λ r. ⌜ r ≡ roomOf (l .«register_instances») (l .«node_instances») registers nodes rules children root ⌝ }
+{
+    if registers < l.register_instances {
+        return false;
+    }
+    let n = l.node_instances;
+    if nodes < n {
+        return false;
+    }
+    if rules < n {
+        return false;
+    }
+    if children / 64 < n {
+        return false;
+    }
+    1 <= root
+}
+
+// The checker's answer; and the tables of an accepted file for a wanted attention type, where all of them are long enough: the names of its register instances and of its node instances, the places of the wanted rules, the children of each node instance, and the position of the wanted root. Otherwise every table keeps what it has.
+pub fn prepare(
+    file: &[u8],
+    attention: u8,
+    registers: &mut [u64],
+    nodes: &mut [u64],
+    rules: &mut [u64],
+    children: &mut [u16],
+    root: &mut [u64],
+) -> Checked
+    ensures { λ r. ⌜ checkedValues r ≡ check (now (file .entry)) ⌝ }
+    ensures { λ r. ⌜ _≡_ {A = Lent} (record { registers = now (registers .exit); nodes = now (nodes .exit); rules = now (rules .exit); children = now (children .exit); root = now (root .exit) }) (prepared attention (verdict (now (file .entry))) (record { registers = now (registers .entry); nodes = now (nodes .entry); rules = now (rules .entry); children = now (children .entry); root = now (root .entry) })) ⌝ }
+{
+    let e = examine(file);
+    match e {
+        LayoutRead::Done(l) => {
+            if has_room(
+                l,
+                registers.len(),
+                nodes.len(),
+                rules.len(),
+                children.len(),
+                root.len(),
+            ) {
+                fill_laid(file, l, attention, registers, nodes, rules, children, root);
+                return Checked::Accepted(summary(l));
+            }
+            Checked::Accepted(summary(l))
+        }
+        LayoutRead::Refused(r) => Checked::Refused(r),
+    }
 }

@@ -38,7 +38,7 @@ module _ (c : Chip) (fit : FieldsFit c) where
   register-names : Every (λ e. (e .id < 256 ^ 3) × (e .instance .number < 256)) (registerEntries c)
   register-names = every-map _ _ (λ e h. (h .0 .0, h .1 .0)) (registerEntries c) (every-both _ _ (registerEntries c) registers-fit (fit .registerInstances))
 
-  nodes-fit : Every (λ e. e .id < 256 ^ 2) (nodeEntries c)
+  pub nodes-fit : Every (λ e. e .id < 256 ^ 2) (nodeEntries c)
   unfolding nodeEntries nodeEntriesOf
   nodes-fit =
       every-gathered-in _ nodeEntriesOf (c .nodes)

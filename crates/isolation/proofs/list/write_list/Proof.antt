@@ -1,5 +1,5 @@
 use mathlib.Core.Path.{refl}
-use Rattle.isolation.proofs.WriteLaws.{unfit-marks, unfit-ids, unfit-numbers, room-yes, room-no, rows-finished, written-front}
+use Rattle.isolation.proofs.WriteLaws.{unfit-marks, unfit-keys, room-yes, room-no, rows-finished, written-front}
 use borrow.Author.Needs.{needs}
 use Rattle.isolation.proofs.list.write_list.Statement.{statement}
 use Rattle.isolation.proofs.list.write_list.Tie as tie
@@ -8,23 +8,18 @@ size-requires : tie.Need-size-requires
 size-requires c κs = search needs
 
 returns : tie.Need-returns
-returns c = (unfit-marks _ _ _ _ _ _ _ (c .before .size .ensures) (c .if1 .taken), refl)
+returns c = (unfit-marks _ _ _ _ _ _ (c .before .size .ensures) (c .if1 .taken), refl)
 
 returns-2 : tie.Need-returns-2
-returns-2 c = (unfit-ids _ _ _ _ _ _ _ (c .before .before .size .ensures) (c .before .if1 .left) (c .if2 .taken), refl)
-
-returns-3 : tie.Need-returns-3
-returns-3 c =
-    (unfit-numbers _ _ _ _ _ _ _ (c .before .before .before .size .ensures) (c .before .before .if1 .left) (c .before .if2 .left) (c .if3 .taken), refl)
+returns-2 c = (unfit-keys _ _ _ _ _ _ (c .before .before .size .ensures) (c .before .if1 .left) (c .if2 .taken), refl)
 
 count-rows-requires : tie.Need-count-rows-requires
 count-rows-requires c κs = search needs
 
-returns-4 : tie.Need-returns-4
-returns-4 c =
+returns-3 : tie.Need-returns-3
+returns-3 c =
     let d = c .before .before in (
-      room-no _ _ _ _ _ _ _ (d .before .before .before .size .ensures) (d .before .before .if1 .left) (d .before .if2 .left) (d .if3 .left)
-          (c .before .count-rows .ensures) (c .if4 .taken),
+      room-no _ _ _ _ _ _ (d .before .before .size .ensures) (d .before .if1 .left) (d .if2 .left) (c .before .count-rows .ensures) (c .if3 .taken),
       refl,
     )
 
@@ -34,14 +29,13 @@ put-rows-requires c κs = search needs
 same-length : tie.Need-same-length
 same-length c = search needs
 
-returns-5 : tie.Need-returns-5
-returns-5 c =
+returns-4 : tie.Need-returns-4
+returns-4 c =
     let p = c .before .before in
     let f = p .before .before in
     let d = f .before .before in (
-      room-yes _ _ _ _ _ _ _ (d .before .before .before .size .ensures) (d .before .before .if1 .left) (d .before .if2 .left) (d .if3 .left)
-          (f .before .count-rows .ensures) (f .if4 .left),
-      written-front (rows-finished _ _ _ _ _ _ _ (d .before .before .before .size .ensures) (p .put-rows .ensures)),
+      room-yes _ _ _ _ _ _ (d .before .before .size .ensures) (d .before .if1 .left) (d .if2 .left) (f .before .count-rows .ensures) (f .if3 .left),
+      written-front (rows-finished _ _ _ _ _ _ (d .before .before .size .ensures) (p .put-rows .ensures)),
     )
 
 pub write-list-spec : {M : Type 1} → statement M
@@ -51,9 +45,8 @@ write-list-spec =
     size-requires
     returns
     returns-2
-    returns-3
     count-rows-requires
-    returns-4
+    returns-3
     put-rows-requires
     same-length
-    returns-5)
+    returns-4)

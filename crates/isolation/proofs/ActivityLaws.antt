@@ -1,0 +1,268 @@
+-- The laws of the code that finds active bits and unread registers.
+use Prim.Native.Nat.{ℕ, zero, suc, _+_, _-_, _≤_, _<_}
+use mathlib.Core.Bool.{Bool, true, false, not, _||_}
+use mathlib.Core.List.{List, [], _∷_, _++_, map, map-append}
+use mathlib.Core.Logic.{_⊎_, inl, inr, ⊎-elim}
+use mathlib.Core.Path.{_≡_, refl, sym, _∙_, ap, subst}
+use native.Mathlib.Numerals.{add-one}
+use native.Mathlib.Omega.{arith}
+use lib.Dec.{ltb, eqb}
+use lib.ListN.{length, getD, set, take, length-map, length-take}
+use lib.Seq.{take-all, take-add}
+use borrow.Author.Tests.{eq-eqb, ne-eqb, le-ltb, lt-ltb}
+use Rattle.numbers.proofs.Bools.{either, clash}
+use Rattle.format.specs.ExpressionLayout.{exprAt}
+use Rattle.format.specs.Limits.{levels}
+use Rattle.format.specs.Lookup.{some, position, at, gathered, NodeEntry}
+use Rattle.format.specs.Parsed.{done}
+use Rattle.format.specs.References.{Fault}
+use Rattle.format.specs.Rules.{Every}
+use Rattle.format.specs.Tree.{Expr, Rule, NodeInstance}
+use Rattle.format.proofs.FaultsLaws.{below?}
+use Rattle.format.proofs.GatheredLaws.{gathered-one}
+use Rattle.format.proofs.PositionsLaws.{at-first, at-next, at-inside, inside-at, every-at}
+use Rattle.tables.specs.Tables.{written}
+use Rattle.tables.proofs.TablesLaws.{written-append}
+use Rattle.links.specs.Links.{rulePlace}
+use Rattle.references.proofs.KeysLaws.{column-at}
+use Rattle.rules.specs.declared.Value.{Value}
+use Rattle.rules.specs.Value.{faulty, firstPlace, valued}
+use Rattle.isolation.specs.declared.Activity.{Activity}
+use Rattle.isolation.specs.ChipGraph.{firstOf, ruleFor}
+use Rattle.isolation.specs.Rows.{isDone}
+use Rattle.isolation.specs.Activity.{unreadBy, exprWord, ruleWord, activeWord, unreadPlace, activityOf, inactive, RuleAgain, RulesAgain, unreadAt, firstUnread, fitting}
+
+-- One rule
+
+-- Where nothing is at fault there is no first place.
+pub faultless-place : (fs : List Fault) → faulty fs ≡ false → firstPlace fs ≡ 0
+unfolding faulty firstPlace
+faultless-place [] e = refl
+faultless-place (f ∷ fs) e = clash refl e
+
+module _ (s : List ℕ) (at : ℕ) (keys words read : List ℕ) {v : Value}
+    (gives : (e : Expr) (m : ℕ) → exprAt s 16 at ≡ done e m → v ≡ valued keys words read e m) (e : Expr) (m : ℕ) (q : exprAt s levels at ≡ done e m) where
+  value-is : v ≡ valued keys words read e m
+  unfolding levels
+  value-is = gives e m q
+
+  pub unread-yes : v .unread ≡ true → _≡_ {A = Activity} (record { word = 0; unread = v .place }) (activityOf keys words read e)
+  unfolding valued activityOf exprWord unreadBy
+  unread-yes h =
+      let f : faulty (unreadBy keys read e) ≡ true = sym (ap (λ x. x .unread) value-is) ∙ h in
+      let p : v .place ≡ firstPlace (unreadBy keys read e) = ap (λ x. x .place) value-is in
+      rw (f, p)
+
+  pub unread-no : v .unread ≡ false → _≡_ {A = Activity} (record { word = v .word; unread = 0 }) (activityOf keys words read e)
+  unfolding valued activityOf exprWord unreadBy
+  unread-no h =
+      let f : faulty (unreadBy keys read e) ≡ false = sym (ap (λ x. x .unread) value-is) ∙ h in
+      let w : v .word ≡ valued keys words read e m .word = ap (λ x. x .word) value-is in
+      rw (f, faultless-place (unreadBy keys read e) f, w)
+
+-- The rule of a node instance, and its place
+
+rule-on : (attention : ℕ) (r : Rule) (rs : List Rule) → eqb (r .attention) attention ≡ false
+    → (rulePlace attention (r ∷ rs) ≡ rulePlace attention rs)
+    × (firstOf (λ x. eqb (x .attention) attention) (r ∷ rs) ≡ firstOf (λ x. eqb (x .attention) attention) rs)
+unfolding rulePlace firstOf position
+rule-on attention r rs e = (rw e, rw e (at-next _ r rs))
+
+rule-here : (attention : ℕ) (r : Rule) (rs : List Rule) → eqb (r .attention) attention ≡ true
+    → (rulePlace attention (r ∷ rs) ≡ r .place) × (firstOf (λ x. eqb (x .attention) attention) (r ∷ rs) ≡ r ∷ [])
+unfolding rulePlace firstOf position
+rule-here attention r rs e = (rw e, rw e (at-first r rs))
+
+rule-none : (attention : ℕ) → (rulePlace attention [] ≡ 0) × (firstOf (λ (x : Rule). eqb (x .attention) attention) [] ≡ [])
+unfolding rulePlace firstOf position at
+rule-none attention = (refl, refl)
+
+-- There is none, and the place is 0; or there is one, it is one of the rules, and the place is its place.
+rules-cases : (P : Rule → Type 0) (attention : ℕ) (rs : List Rule) → Every P rs
+    → ((rulePlace attention rs ≡ 0) × (firstOf (λ x. eqb (x .attention) attention) rs ≡ []))
+    ⊎ ((r : Rule) × P r × (rulePlace attention rs ≡ r .place) × (firstOf (λ x. eqb (x .attention) attention) rs ≡ r ∷ []))
+unfolding Every
+rules-cases P attention [] h = inl (rule-none attention)
+rules-cases P attention (r ∷ rs) h =
+    ⊎-elim
+    (λ e. let q = rule-here attention r rs e in inr (r, h .0, q .0, q .1))
+    (λ e.
+    let q = rule-on attention r rs e in
+    ⊎-elim (λ z. inl (q .0 ∙ z .0, q .1 ∙ z .1)) (λ z. inr (z .0, z .1, q .0 ∙ z .2, q .1 ∙ z .3)) (rules-cases P attention rs (h .1)))
+    (either (eqb (r .attention) attention))
+
+pub rule-cases : (P : Rule → Type 0) (attention : ℕ) (i : NodeInstance) → Every P (i .rules)
+    → ((rulePlace attention (i .rules) ≡ 0) × (ruleFor attention i ≡ []))
+    ⊎ ((r : Rule) × P r × (rulePlace attention (i .rules) ≡ r .place) × (ruleFor attention i ≡ r ∷ []))
+unfolding ruleFor
+rule-cases P attention i h = rules-cases P attention (i .rules) h
+
+module _ (keys words read : List ℕ) (attention : ℕ) (e : NodeEntry) where
+  pub no-rule : ruleFor attention (e .instance) ≡ [] → (activeWord keys words read attention e ≡ 0) × (unreadPlace keys read attention e ≡ 0)
+  unfolding activeWord unreadPlace ruleWord gathered firstPlace
+  no-rule q = (rw q, rw q)
+
+  pub one-rule : (r : Rule) → ruleFor attention (e .instance) ≡ r ∷ []
+      → (activeWord keys words read attention e ≡ exprWord keys words read (r .expression)) × (unreadPlace keys read attention e ≡ firstPlace (unreadBy keys read (r .expression)))
+  unfolding activeWord unreadPlace ruleWord
+  one-rule r q = (rw q, rw q (ap firstPlace (gathered-one (λ r. unreadBy keys read (r .expression)) r)))
+
+  word-of : (x : Expr) {a : Activity} → a ≡ activityOf keys words read x → a .word ≡ exprWord keys words read x
+  unfolding activityOf
+  word-of x d = ap (λ y. y .word) d
+
+  place-of : (x : Expr) {a : Activity} → a ≡ activityOf keys words read x → a .unread ≡ firstPlace (unreadBy keys read x)
+  unfolding activityOf
+  place-of x d = ap (λ y. y .unread) d
+
+  -- What the code finds at the place of the rule.
+  pub entry-active : (s : List ℕ) → RulesAgain s e → {p : ℕ} → p ≡ rulePlace attention (e .instance .rules) → {a : Activity} → (p ≡ 0 → a ≡ inactive)
+      → ((x : Expr) (m : ℕ) → (p ≡ 0 → ⊥) → exprAt s levels p ≡ done x m → a ≡ activityOf keys words read x)
+      → (a .word ≡ activeWord keys words read attention e) × (a .unread ≡ unreadPlace keys read attention e)
+  entry-active s again {p} place {a} none some =
+      ⊎-elim
+      (λ z.
+      let d = none (place ∙ z .0) in
+      let o = no-rule (z .1) in
+      (ap (λ x. x .word) d ∙ sym (o .0), ap (λ x. x .unread) d ∙ sym (o .1)))
+      (λ z.
+      let r = z .0 in
+      let w : p ≡ r .place = place ∙ z .2 in
+      let d = some (r .expression) (z .1 .next) (λ q. z .1 .placed (sym w ∙ q)) (rw w (z .1 .read)) in
+      let o = one-rule r (z .3) in
+      (word-of (r .expression) d ∙ sym (o .0), place-of (r .expression) d ∙ sym (o .1)))
+      (rule-cases (RuleAgain s) attention (e .instance) again)
+
+-- A column, entry after entry
+
+taken : {A : Type 0} (f : A → ℕ) (i : ℕ) (xs : List A) {x : A} → at i xs ≡ x ∷ [] → length (map f (take i xs)) ≡ i
+taken f i xs q = omega (arith, length-map (take i xs) f, length-take i xs, inside-at i xs q)
+
+take-next : {A : Type 0} (i : ℕ) (xs : List A) {x : A} → at i xs ≡ x ∷ [] → take (i + 1) xs ≡ take i xs ++ (x ∷ [])
+unfolding at
+take-next i xs q = take-add i 1 xs ∙ ap (λ y. take i xs ++ y) q
+
+one-written : (t : List ℕ) (k x : ℕ) → written t k (x ∷ []) ≡ set t k x
+unfolding written
+one-written t k x = refl
+
+column-next : {A : Type 0} (f : A → ℕ) (i : ℕ) (xs : List A) {x : A} → at i xs ≡ x ∷ [] → (t₀ : List ℕ) {t u : List ℕ} {v : ℕ}
+    → t ≡ written t₀ 0 (map f (take i xs)) → u ≡ set t i v → v ≡ f x → u ≡ written t₀ 0 (map f (take (i + 1) xs))
+column-next f i xs {x} q t₀ {t} {u} {v} e d w =
+    let n : 0 + length (map f (take i xs)) ≡ i = omega (arith, taken f i xs q) in
+    let l : written t₀ 0 (map f (take (i + 1) xs)) ≡ written (written t₀ 0 (map f (take i xs))) (0 + length (map f (take i xs))) (f x ∷ []) =
+    ap (λ y. written t₀ 0 (map f y)) (take-next i xs q) ∙ ap (written t₀ 0) (map-append f (take i xs) (x ∷ [])) ∙ written-append t₀ 0 (map f (take i xs)) (f x ∷ []) in
+    d ∙ ap (λ y. set y i v) e ∙ ap (set (written t₀ 0 (map f (take i xs))) i) w
+    ∙ sym (l ∙ ap (λ k. written (written t₀ 0 (map f (take i xs))) k (f x ∷ [])) n ∙ one-written _ i (f x))
+
+column-none : {A : Type 0} (f : A → ℕ) (xs : List A) (t : List ℕ) → t ≡ written t 0 (map f (take 0 xs))
+unfolding written
+column-none f xs t = refl
+
+-- The tables hold what the first i node instances give.
+pub record Filling (s rules keys words read a₀ a u₀ u : List ℕ) (i : ℕ) : Type 0 where
+  pub filled : (attention : ℕ) (es : List NodeEntry) → Every (RulesAgain s) es → rules ≡ map (λ e. rulePlace attention (e .instance .rules)) es
+      → (a ≡ written a₀ 0 (map (activeWord keys words read attention) (take i es))) × (u ≡ written u₀ 0 (map (unreadPlace keys read attention) (take i es)))
+
+module _ (s rules keys words read : List ℕ) where
+  pub filling-begin : (a u : List ℕ) → Filling s rules keys words read a a u u 0
+  filling-begin a u = record { filled = λ attention es h e. (column-none (activeWord keys words read attention) es a, column-none (unreadPlace keys read attention) es u) }
+
+  module _ {a₀ a u₀ u : List ℕ} {i : ℕ} (f : Filling s rules keys words read a₀ a u₀ u i) where
+    pub filling-next : i < length rules → {x : Activity} {b v : List ℕ} → (getD rules i 0 ≡ 0 → x ≡ inactive)
+        → ((e : Expr) (m : ℕ) → (getD rules i 0 ≡ 0 → ⊥) → exprAt s levels (getD rules i 0) ≡ done e m → x ≡ activityOf keys words read e)
+        → b ≡ set a i (x .word) → v ≡ set u i (x .unread) → Filling s rules keys words read a₀ b u₀ v (i + 1)
+    filling-next h none some p q =
+        record {
+          filled = λ attention es again e.
+              let l : length rules ≡ length es = ap length e ∙ length-map es (λ e. rulePlace attention (e .instance .rules)) in
+              let d = at-inside i es (omega arith) in
+              let w : getD rules i 0 ≡ rulePlace attention (d .0 .instance .rules) = ap (λ r. getD r i 0) e ∙ column-at (λ e. rulePlace attention (e .instance .rules)) es i (d .1) in
+              let g = entry-active keys words read attention (d .0) s (every-at (RulesAgain s) i es again (d .1)) w none some in
+              let r = f .filled attention es again e in
+              (column-next (activeWord keys words read attention) i es (d .1) a₀ (r .0) p (g .0), column-next (unreadPlace keys read attention) i es (d .1) u₀ (r .1) q (g .1));
+        }
+
+    module _ (h : length rules ≤ i) (attention : ℕ) (es : List NodeEntry) (again : Every (RulesAgain s) es) (e : rules ≡ map (λ e. rulePlace attention (e .instance .rules)) es) where
+      all-taken : take i es ≡ es
+      all-taken =
+          take-all i es
+          (let l : length rules ≡ length es = ap length e ∙ length-map es (λ e. rulePlace attention (e .instance .rules)) in omega arith)
+
+      pub filling-active : a ≡ written a₀ 0 (map (activeWord keys words read attention) es)
+      filling-active = f .filled attention es again e .0 ∙ ap (λ x. written a₀ 0 (map (activeWord keys words read attention) x)) all-taken
+
+      pub filling-unread : u ≡ written u₀ 0 (map (unreadPlace keys read attention) es)
+      filling-unread = f .filled attention es again e .1 ∙ ap (λ x. written u₀ 0 (map (unreadPlace keys read attention) x)) all-taken
+
+-- The first unread register of done node instances
+
+module _ (marks unread : List ℕ) where
+  pub at-done : (i : ℕ) {x : ℕ} → getD marks i 0 ≡ 2 → x ≡ getD unread i 0 → x ≡ unreadAt marks unread i
+  unfolding unreadAt isDone
+  at-done i e d = rw (eq-eqb _ 2 e) d
+
+  pub at-other : (i : ℕ) → (getD marks i 0 ≡ 2 → ⊥) → 0 ≡ unreadAt marks unread i
+  unfolding unreadAt isDone
+  at-other i e = rw (ne-eqb _ 2 e)
+
+  pub first-begin : firstUnread marks unread 0 ≡ 0
+  unfolding firstUnread
+  first-begin = refl
+
+  first-suc : (i : ℕ) → firstUnread marks unread i ≡ 0 → firstUnread marks unread (suc i) ≡ unreadAt marks unread i
+  unfolding firstUnread
+  first-suc i e = rw (eq-eqb _ 0 e)
+
+  pub first-more : (i : ℕ) {x : ℕ} → firstUnread marks unread i ≡ 0 → x ≡ unreadAt marks unread i → x ≡ 0 → firstUnread marks unread (i + 1) ≡ 0
+  first-more i e d z = rw add-one (first-suc i e ∙ sym d ∙ z)
+
+  first-kept : (n : ℕ) {x : ℕ} → firstUnread marks unread n ≡ x → (x ≡ 0 → ⊥) → firstUnread marks unread (suc n) ≡ x
+  unfolding firstUnread
+  first-kept n e h = rw (e, ne-eqb _ 0 h)
+
+  first-stays : (i k : ℕ) {x : ℕ} → firstUnread marks unread i ≡ x → (x ≡ 0 → ⊥) → firstUnread marks unread (k + i) ≡ x
+  first-stays i zero e h = ap (firstUnread marks unread) (let z : 0 + i ≡ i = omega arith in z) ∙ e
+  first-stays i (suc k) e h = ap (firstUnread marks unread) (let z : suc k + i ≡ suc (k + i) = omega arith in z) ∙ first-kept (k + i) (first-stays i k e h) h
+
+  pub first-found : (i n : ℕ) {x : ℕ} → i < n → firstUnread marks unread i ≡ 0 → x ≡ unreadAt marks unread i → (x ≡ 0 → ⊥) → x ≡ firstUnread marks unread n
+  first-found i n {x} h e d z =
+      let w : (n - suc i) + suc i ≡ n = omega arith in
+      sym (subst (λ k. firstUnread marks unread k ≡ x) w (first-stays (suc i) (n - suc i) (first-suc i e ∙ sym d) z))
+
+  pub first-end : (i n : ℕ) → i ≤ n → n ≤ i → firstUnread marks unread i ≡ 0 → 0 ≡ firstUnread marks unread n
+  first-end i n l h e = let w : i ≡ n = omega arith in sym (subst (λ k. firstUnread marks unread k ≡ 0) w e)
+
+-- Read bytes
+
+pub known-no : (read : List ℕ) (i : ℕ) → i < length read → 1 < getD read i 0 → false ≡ not (some (ltb 1) read)
+unfolding some
+known-no [] i h l = absurd (omega arith)
+known-no (b ∷ read) zero h l = rw (lt-ltb 1 b l)
+known-no (b ∷ read) (suc i) h l = go (ltb 1 b) (known-no read i (omega arith) l)
+  where
+    go : (t : Bool) → false ≡ not (some (ltb 1) read) → false ≡ not (t || some (ltb 1) read)
+    go true e = refl
+    go false e = e
+
+pub known-yes : (read : List ℕ) → ((k : ℕ) → k < length read → 1 < getD read k 0 → ⊥) → true ≡ not (some (ltb 1) read)
+unfolding some
+known-yes [] h = refl
+known-yes (b ∷ read) h =
+    rw (le-ltb 1 b (small (λ l. h 0 (omega arith) l))) (known-yes read (λ k l. h (suc k) (omega arith)))
+  where
+    small : (1 < b → ⊥) → b ≤ 1
+    small n = ⊎-elim (λ l. absurd (n l)) (λ l. l) (below? 1 b)
+
+module _ (m : ℕ) (words read : List ℕ) where
+  pub words-other : (length words ≡ m → ⊥) → false ≡ fitting m words read
+  unfolding fitting
+  words-other h = rw (ne-eqb _ m h)
+
+  pub read-other : length words ≡ m → (length read ≡ m → ⊥) → false ≡ fitting m words read
+  unfolding fitting
+  read-other e h = rw (eq-eqb _ m e, ne-eqb _ m h)
+
+  pub both-fit : length words ≡ m → length read ≡ m → {t : Bool} → t ≡ not (some (ltb 1) read) → t ≡ fitting m words read
+  unfolding fitting
+  both-fit e d h = rw (eq-eqb _ m e, eq-eqb _ m d) h

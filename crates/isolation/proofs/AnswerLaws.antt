@@ -1,0 +1,230 @@
+-- The answer of isolation in the code's own terms: what the tables, the walk and the list say of an accepted file decides it.
+use Prim.Native.Nat.{ℕ, _*_, _/_, _^_, _≤_, _<_}
+use mathlib.Core.Bool.{Bool, true, false, cond}
+use mathlib.Core.List.{List, [], _∷_, _++_, map}
+use mathlib.Core.Path.{_≡_, refl, sym, _∙_, ap, subst}
+use native.Mathlib.Omega.{arith}
+use lib.Dec.{leb}
+use lib.ListN.{length, getD, take, drop, length-map, List·getD-append}
+use borrow.Author.Tests.{lt-ltb}
+use Rattle.numbers.proofs.BigEndianLaws.{Bytes}
+use Rattle.graph.specs.Chains.{reachedCount}
+use Rattle.format.specs.Fields.{knownAttention}
+use Rattle.format.specs.Lookup.{at, gathered, NodeEntry, registerEntries, nodeEntries, nodePosition}
+use Rattle.format.specs.Parsed.{done, refused}
+use Rattle.format.specs.Rules.{Meets}
+use Rattle.format.specs.Tree.{Root, Chip}
+use Rattle.format.specs.Verdict.{verdict}
+use Rattle.format.proofs.Acceptance.{acceptance, read-to-end}
+use Rattle.format.proofs.PositionsLaws.{every-at, inside-at}
+use Rattle.tables.specs.Tables.{keyOf, written}
+use Rattle.tables.proofs.TablesLaws.{written-front}
+use Rattle.walk.specs.Marks.{finished}
+use Rattle.walk.specs.TableGraph.{sizeOf, tableGraph}
+use Rattle.walk.proofs.Step.{length-tabulate}
+use Rattle.index.specs.Columns.{registerKeys, nodeKeys}
+use Rattle.links.specs.Links.{childRow}
+use Rattle.references.proofs.KeysLaws.{column-at}
+use Rattle.references.proofs.TablesLaws.{nodes-fit}
+use Rattle.reader.proofs.FaultsLaws.{front}
+use Rattle.isolation.specs.declared.Listing
+use Rattle.isolation.specs.declared.Listing.{Listing}
+use Rattle.isolation.specs.ChipGraph.{rootFor, chipGraph}
+use Rattle.isolation.specs.Outcome as outcome
+use Rattle.isolation.specs.Outcome.{refusedOutcome, doneOutcome, reachedUnread, allRead, fromRoot, isolateIn, isolate}
+use Rattle.isolation.specs.Readings.{readingsFit}
+use Rattle.isolation.specs.Records.{recordSize, listing, recordsOf}
+use Rattle.isolation.specs.Rows.{keyId, keyNumber, rowsTo, rowsRecords, roomFor, listingOf, listAfter}
+use Rattle.isolation.specs.Activity.{activeWord, unreadPlace, firstUnread, fitting}
+use Rattle.isolation.proofs.ChipLaws.{first-out, root-inside}
+use Rattle.isolation.proofs.GraphsLaws.{DoneReached, finished-done, rows-listing, rows-records-listing, listing-length}
+use Rattle.isolation.proofs.WriteLaws.{room-is}
+use Rattle.isolation.proofs.TablesLaws.{entries-few, act-size, root-in-tables, tables-listing, tables-count}
+use Rattle.isolation.proofs.UnreadLaws.{unread-none, unread-some}
+
+-- Columns that were written to the front of a table
+
+module _ {E : Type 0} (f : E → ℕ) (es : List E) (t₀ t : List ℕ) (room : length es ≤ length t₀) (t-is : t ≡ written t₀ 0 (map f es)) where
+  fits-in : length (map f es) ≤ length t₀
+  fits-in = rw (length-map es f) room
+
+  pub column-front : (n : ℕ) → n ≡ length es → take n t ≡ map f es
+  column-front n e = ap (take n) t-is ∙ front t₀ (map f es) n (e ∙ sym (length-map es f)) fits-in
+
+  pub column-entry : (i : ℕ) (e : E) → at i es ≡ e ∷ [] → getD t i 0 ≡ f e
+  column-entry i e q =
+      let l : i < length (map f es) = rw (length-map es f) (inside-at i es q) in
+      ap (λ u. getD u i 0) (t-is ∙ written-front t₀ (map f es) fits-in) ∙ List·getD-append (map f es) (drop (length (map f es)) t₀) 0 i l ∙ column-at f es i q
+
+-- A node instance's key holds its ID and its number.
+key-id : (id number : ℕ) → id < 65536 → number < 256 → keyId (keyOf id number) ≡ id
+unfolding keyId keyOf
+key-id id number hi hn = omega arith
+
+key-number : (id number : ℕ) → number < 256 → keyNumber (keyOf id number) ≡ number
+unfolding keyNumber keyOf
+key-number id number hn = omega arith
+
+keys-tell : (c : Chip) → Meets c → (nodes : List ℕ) → nodes ≡ nodeKeys c → (i : ℕ) (e : NodeEntry) → at i (nodeEntries c) ≡ e ∷ []
+    → (keyId (getD nodes i 0) ≡ e .id) × (keyNumber (getD nodes i 0) ≡ e .instance .number)
+keys-tell c m nodes n i e q =
+    let k : getD nodes i 0 ≡ keyOf (e .id) (e .instance .number) = ap (λ t. getD t i 0) n ∙ column-at (λ e. keyOf (e .id) (e .instance .number)) (nodeEntries c) i q in
+    let h : e .id < 65536 = every-at (λ e. e .id < 256 ^ 2) i (nodeEntries c) (nodes-fit c (m .fields)) q in
+    let g = every-at _ i (nodeEntries c) (m .fields .nodeInstances) q in
+    rw k (key-id (e .id) (e .instance .number) h (g .0), key-number (e .id) (e .instance .number) (g .0))
+
+-- The marks of a walk that has come to its end.
+module _ (act ch : List ℕ) (root : ℕ) (marks : List ℕ) (marks-are : marks ≡ finished (tableGraph act ch) root .marks) where
+  marks-length : length marks ≡ 256
+  unfolding finished
+  marks-length = ap length marks-are ∙ length-tabulate 256 _
+
+  marks-done : root < tableGraph act ch .size → tableGraph act ch .size ≤ 256 → DoneReached (tableGraph act ch) root marks
+  marks-done h l = subst (DoneReached (tableGraph act ch) root) (sym marks-are) (finished-done (tableGraph act ch) root h l)
+
+  steps-are : root < tableGraph act ch .size → finished (tableGraph act ch) root .steps ≡ reachedCount (tableGraph act ch) root
+  unfolding finished
+  steps-are h = rw (lt-ltb _ _ h)
+
+-- What is answered of the room.
+room-yes : (k bytes : ℕ) {count : ℕ} → roomFor k bytes ≡ Listing.Written count → (k ≡ count) × (leb k (bytes / recordSize) ≡ true)
+unfolding roomFor
+room-yes k bytes {count} e = go (leb k (bytes / recordSize)) e
+  where
+    go : (t : Bool) → cond t (Listing.Written k) (Listing.NoRoom k) ≡ Listing.Written count → (k ≡ count) × (t ≡ true)
+    go true e = (let z : k ≡ count = cc in z, refl)
+    go false e = let z : _≡_ {A = ℕ} 0 1 = cc in absurd (omega arith)
+
+room-no : (k bytes : ℕ) {count : ℕ} → roomFor k bytes ≡ Listing.NoRoom count → (k ≡ count) × (leb k (bytes / recordSize) ≡ false)
+unfolding roomFor
+room-no k bytes {count} e = go (leb k (bytes / recordSize)) e
+  where
+    go : (t : Bool) → cond t (Listing.Written k) (Listing.NoRoom k) ≡ Listing.NoRoom count → (k ≡ count) × (t ≡ false)
+    go true e = let z : _≡_ {A = ℕ} 0 1 = cc in absurd (omega arith)
+    go false e = (let z : k ≡ count = cc in z, refl)
+
+room-some : (k bytes : ℕ) → roomFor k bytes ≡ Listing.Unfit → ⊥
+unfolding roomFor
+room-some k bytes e = go (leb k (bytes / recordSize)) e
+  where
+    go : (t : Bool) → cond t (Listing.Written k) (Listing.NoRoom k) ≡ Listing.Unfit → ⊥
+    go true e = let z : _≡_ {A = ℕ} 0 1 = cc in absurd (omega arith)
+    go false e = let z : _≡_ {A = ℕ} 0 1 = cc in absurd (omega arith)
+
+-- The answer
+
+module _ (file : List ℕ) (attention : ℕ) (words read list : List ℕ) where
+  -- 1 to 14
+  pub file-refused : {n p : ℕ} → verdict file ≡ refused n p → refusedOutcome n p list ≡ isolate file attention words read list
+  unfolding isolate isolateIn
+  file-refused e = rw e
+
+  module _ (c : Chip) (end : ℕ) (accepted : verdict file ≡ done c end) where
+    -- 15
+    pub type-refused : knownAttention attention ≡ false → refusedOutcome 15 0 list ≡ isolate file attention words read list
+    unfolding isolate isolateIn
+    type-refused k = rw (accepted, k)
+
+    -- 16
+    pub root-refused : knownAttention attention ≡ true → rootFor attention c ≡ [] → refusedOutcome 16 0 list ≡ isolate file attention words read list
+    unfolding isolate isolateIn fromRoot
+    root-refused k r = rw (accepted, k, r)
+
+    fitting-is : (m : ℕ) → m ≡ length (registerEntries c) → fitting m words read ≡ readingsFit c words read
+    unfolding fitting readingsFit
+    fitting-is m e = rw e
+
+    module _ (known : knownAttention attention ≡ true) (t : Root) (ts : List Root) (rooted : rootFor attention c ≡ t ∷ ts) (m : ℕ) (m-is : m ≡ length (registerEntries c)) where
+      -- 17
+      pub readings-refused : fitting m words read ≡ false → refusedOutcome 17 0 list ≡ isolate file attention words read list
+      unfolding isolate isolateIn fromRoot
+      readings-refused f = rw (accepted, known, rooted, sym (fitting-is m m-is) ∙ f)
+
+      -- The root's position, the tables, and the marks after the walk.
+      module _ (bytes : Bytes file) (fit : fitting m words read ≡ true) (root : ℕ) (root-is : root ≡ nodePosition c (t .id) (t .number)) (act ch rest : List ℕ)
+          (act-is : act ≡ map (activeWord (registerKeys c) words read attention) (nodeEntries c))
+          (ch-is : ch ≡ gathered (λ e. childRow (nodeKeys c) (e .instance)) (nodeEntries c) ++ rest)
+          (unread : List ℕ) (unread-is : (i : ℕ) (e : NodeEntry) → at i (nodeEntries c) ≡ e ∷ [] → getD unread i 0 ≡ unreadPlace (registerKeys c) read attention e)
+          (marks : List ℕ) (marks-are : marks ≡ finished (tableGraph act ch) root .marks) (n : ℕ) (n-is : n ≡ length (nodeEntries c)) where
+        whole : verdict file ≡ done c (length file)
+        whole = accepted ∙ ap (done c) (read-to-end file bytes accepted)
+
+        meets : Meets c
+        meets = acceptance file bytes c .0 whole .2
+
+        inside : root < length (nodeEntries c)
+        unfolding rootFor
+        inside =
+            let f = first-out _ (c .roots) rooted in
+            subst (λ x. x < length (nodeEntries c)) (sym root-is) (root-inside c (meets .present) _ (f .0))
+
+        inside-tables : root < tableGraph act ch .size
+        inside-tables = root-in-tables c meets attention words read act ch rest act-is ch-is root inside
+
+        size : tableGraph act ch .size ≡ length (nodeEntries c)
+        unfolding tableGraph
+        size = act-size c meets attention words read act ch rest act-is ch-is
+
+        reached : DoneReached (tableGraph act ch) root marks
+        reached = marks-done act ch root marks marks-are inside-tables (omega (arith, size, entries-few c meets))
+
+        isolate-is : isolate file attention words read list
+            ≡ allRead (reachedUnread c attention read (chipGraph c attention words read) root) list (outcome.written c attention (chipGraph c attention words read) root list)
+        unfolding isolate isolateIn fromRoot
+        isolate-is = rw (accepted, known, rooted, sym (fitting-is m m-is) ∙ fit, root-is)
+
+        -- 18
+        pub unread-refused : {p : ℕ} → p ≡ firstUnread marks unread n → (p ≡ 0 → ⊥) → refusedOutcome 18 p list ≡ isolate file attention words read list
+        unread-refused d e =
+            sym (isolate-is ∙ unread-some file bytes c whole attention words read act ch rest act-is ch-is root inside marks reached unread unread-is n n-is d e list _)
+
+        -- Every register is read. The code's answer about the list decides.
+        module _ (valued : firstUnread marks unread n ≡ 0) (nodes : List ℕ) (nodes-are : nodes ≡ nodeKeys c) (l : Listing) (l-is : l ≡ listingOf nodes marks act ch (length list)) where
+          written-is : isolate file attention words read list ≡ outcome.written c attention (chipGraph c attention words read) root list
+          unfolding allRead
+          written-is =
+              isolate-is
+              ∙ rw (unread-none file bytes c whole attention words read act ch rest act-is ch-is root inside marks reached unread unread-is n n-is valued)
+
+          listing-is : rowsTo (tableGraph act ch) marks (sizeOf act) ≡ listing (chipGraph c attention words read) root
+          unfolding tableGraph
+          listing-is = rows-listing (tableGraph act ch) root marks reached ∙ tables-listing c meets attention words read act ch rest act-is ch-is root inside
+
+          records-are : rowsRecords attention nodes (tableGraph act ch) marks (sizeOf act) ≡ recordsOf c attention (listing (chipGraph c attention words read) root)
+          records-are =
+              rows-records-listing (tableGraph act ch) root marks reached c attention nodes size (keys-tell c meets nodes nodes-are) (sizeOf act)
+              (act-size c meets attention words read act ch rest act-is ch-is)
+              ∙ ap (recordsOf c attention) (tables-listing c meets attention words read act ch rest act-is ch-is root inside)
+
+          l-room : l ≡ roomFor (length (listing (chipGraph c attention words read) root)) (length list)
+          l-room =
+              let s = act-size c meets attention words read act ch rest act-is ch-is in
+              let k : length nodes ≡ length (nodeEntries c) = ap length nodes-are ∙ length-map (nodeEntries c) (λ e. keyOf (e .id) (e .instance .number)) in
+              l-is
+              ∙ room-is nodes marks act ch (sizeOf act) (length list) refl (omega (arith, s, entries-few c meets, marks-length act ch root marks marks-are)) (omega (arith, s, k))
+              (sym (ap length listing-is))
+
+          pub never-unfit : l ≡ Listing.Unfit → ⊥
+          never-unfit e = room-some _ _ (sym l-room ∙ e)
+
+          -- 19
+          pub room-refused : {count : ℕ} → l ≡ Listing.NoRoom count → refusedOutcome 19 count list ≡ isolate file attention words read list
+          unfolding outcome.written
+          room-refused e =
+              let r = room-no _ _ (sym l-room ∙ e) in
+              sym (written-is ∙ rw (r .1, r .0))
+
+          -- Success
+          pub all-written : {count : ℕ} → l ≡ Listing.Written count → {new : List ℕ} → new ≡ listAfter l (rowsRecords attention nodes (tableGraph act ch) marks (sizeOf act)) list
+              → doneOutcome count (finished (tableGraph act ch) root .steps) new ≡ isolate file attention words read list
+          unfolding outcome.written recordSize chipGraph
+          all-written {count} e {new} d =
+              let r = room-yes _ _ (sym l-room ∙ e) in
+              let ls = listing (chipGraph c attention words read) root in
+              let b : new ≡ recordsOf c attention ls ++ drop (length ls * 8) list =
+              d ∙ ap (λ x. listAfter x (rowsRecords attention nodes (tableGraph act ch) marks (sizeOf act)) list) e
+              ∙ ap (λ x. x ++ drop (length x) list) records-are
+              ∙ ap (λ x. recordsOf c attention ls ++ drop x list) (listing-length c attention (chipGraph c attention words read) root refl) in
+              let s : finished (tableGraph act ch) root .steps ≡ reachedCount (chipGraph c attention words read) root =
+              steps-are act ch root marks marks-are inside-tables ∙ tables-count c meets attention words read act ch rest act-is ch-is root inside in
+              sym (written-is ∙ rw (r .1, b, s, r .0))

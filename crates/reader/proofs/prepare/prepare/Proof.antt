@@ -1,0 +1,59 @@
+use mathlib.Core.Path.{_≡_, sym, _∙_, ap}
+use borrow.Author.Needs.{needs}
+use Rattle.format.proofs.Acceptance.{verdict-out}
+use Rattle.reader.specs.Layout.{layoutParsed}
+use Rattle.reader.proofs.AddressLaws.{accepted, not-accepted, check-accepted, check-refused}
+use Rattle.reader.proofs.FaultsLaws.{laid}
+use Rattle.reader.proofs.PreparedLaws.{prepared-refused, prepared-short, prepared-filled}
+use Rattle.reader.proofs.prepare.prepare.Statement.{statement}
+use Rattle.reader.proofs.prepare.prepare.Tie as tie
+
+returns : tie.Need-returns
+returns c =
+    let e = c .before .before .before .before .before .before .before .before .before .before .before .before .before .before .before .before .before .before .before .before .e .given .1 in
+    let x = c .before .before .before .before .before .before .before .before .before .before .before .before .before .before .before .before .before .before .before .before .before .before .examine .ensures in
+    let a = accepted _ (ap layoutParsed e) (x .0) in
+    let y = sym (ap layoutParsed e) ∙ x .1 _ e in
+    let f = verdict-out _ (a .1) .read in
+    let d = laid _ (λ i. c .before .before .before .before .before .before .before .before .before .before .before .before .before .before .before .before .before .before .before .before .before .before .before .before .before .before .before .before .shared-slice-known .given i .fits) (a .0) y f in (
+      c .summary .ensures ∙ check-accepted _ (ap layoutParsed e) (x .0),
+      prepared-filled _ _ _ (a .1) (d .registerCount) (d .nodeCount) (c .before .before .before .before .before .before .before .before .before .before .before .before .before .before .before .before .before .before .has-room .ensures) (c .before .before .before .before .before .before .before .before .before .before .before .before .before .before .before .before .before .if1 .taken) (c .before .before .before .before .before .before .before .before .before .before .before .fill-laid .ensures (a .0) y f),
+    )
+
+returns-2 : tie.Need-returns-2
+returns-2 c =
+    let e = c .before .before .before .before .e .given .1 in
+    let x = c .before .before .before .before .before .before .examine .ensures in
+    let a = accepted _ (ap layoutParsed e) (x .0) in
+    let y = sym (ap layoutParsed e) ∙ x .1 _ e in
+    let f = verdict-out _ (a .1) .read in
+    let d = laid _ (λ i. c .before .before .before .before .before .before .before .before .before .before .before .before .shared-slice-known .given i .fits) (a .0) y f in (
+      c .summary2 .ensures ∙ check-accepted _ (ap layoutParsed e) (x .0),
+      prepared-short _ _ _ (a .1) (d .registerCount) (d .nodeCount) (c .before .before .has-room .ensures) (c .before .if1 .left),
+    )
+
+returns-3 : tie.Need-returns-3
+returns-3 c =
+    let e = ap layoutParsed (c .before .e2 .given .1) in
+    let x = c .before .before .before .examine .ensures in
+    (check-refused _ e (x .0), prepared-refused _ _ _ (not-accepted _ e (x .0)))
+
+pub prepare-spec : {M : Type 1} → statement M
+prepare-spec =
+    tie.close
+    (tie.spec
+    (λ c κs. search needs)
+    (λ c. search needs)
+    (λ c κs. search needs)
+    (λ c κs. search needs)
+    (λ c κs. search needs)
+    (λ c. search needs)
+    (λ c. search needs)
+    (λ c. search needs)
+    (λ c. search needs)
+    (λ c. search needs)
+    returns
+    (λ c κs. search needs)
+    (λ c. search needs)
+    returns-2
+    returns-3)
