@@ -9,3 +9,6 @@ pub mod TablesLaws
 pub mod UnreadLaws
 pub mod AnswerLaws
 mod SamplesHold
+pub mod SettleLaws
+pub mod RootLaws
+pub mod PreparedLaws

@@ -6,3 +6,4 @@ pub mod Rows
 pub mod Activity
 pub mod Outcome
 pub mod Samples
+pub mod Ready

@@ -216,7 +216,7 @@ module _ (c : Chip) (meets : LayoutMeets c) (present : NamesPresent c) where
       cycle-none h = first-no (inCycle (length entries) table) 0 entries test-is m (omega (arith, first-is))
 
 -- 64 places for each.
-rows-length : (nodes : List ℕ) (es : List NodeEntry) → length (gathered (λ e. childRow nodes (e .instance)) es) ≡ length es * 64
+pub rows-length : (nodes : List ℕ) (es : List NodeEntry) → length (gathered (λ e. childRow nodes (e .instance)) es) ≡ length es * 64
 unfolding gathered
 rows-length nodes [] = refl
 rows-length nodes (e ∷ es) =

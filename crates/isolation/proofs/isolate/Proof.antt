@@ -1,0 +1,76 @@
+use Prim.Native.Nat.{ℕ, _≤_, _<_}
+use mathlib.Core.Path.{_≡_, refl, sym, _∙_, ap}
+use native.Mathlib.Omega.{arith}
+use lib.ListN.{length, length-replicate}
+use lib.Seq.{length-take-le}
+use borrow.Author.Needs.{needs}
+use Rattle.format.specs.declared.Checked
+use Rattle.format.specs.declared.Checked.{Checked}
+use Rattle.format.specs.Refusals.{checkedValues}
+use Rattle.isolation.proofs.PreparedLaws.{answer-refused, sized, tabled, kind-some}
+use Rattle.isolation.proofs.isolate.Statement.{statement}
+use Rattle.isolation.proofs.isolate.Tie as tie
+
+returns : tie.Need-returns
+returns c = let z = sized _ (λ i. c .before .before .before .before .before .before .before .before .before .before .before .before .before .before .before .before .before .before .shared-slice-known .given i .fits) 0 (checkedValues (Checked.Accepted (c .before .before .c .given .0 .0))) refl (sym (ap checkedValues (c .before .before .c .given .1)) ∙ c .before .before .before .before .before .before .before .before .before .prepare .ensures .0) in absurd (omega (arith, c .if1 .taken, z .registers, z .few))
+
+returns-2 : tie.Need-returns-2
+returns-2 c = let z = sized _ (λ i. c .before .before .before .before .before .before .before .before .before .before .before .before .before .before .before .before .before .before .before .shared-slice-known .given i .fits) 0 (checkedValues (Checked.Accepted (c .before .before .before .c .given .0 .0))) refl (sym (ap checkedValues (c .before .before .before .c .given .1)) ∙ c .before .before .before .before .before .before .before .before .before .before .prepare .ensures .0) in absurd (omega (arith, c .if2 .taken, z .nodes, z .fewer))
+
+slice-aggregate-answer : tie.Need-slice-aggregate-answer
+slice-aggregate-answer c =
+    let t = c .before .before .before .before .before .before .before .before .before .before .before .before .prepare .last .1 .1 .0 in
+    let n = c .before .before .before .before .before .c .given .0 .0 .«register_instances» in
+    let h : n ≤ length t = omega (arith, c .before .before .before .before .before .before .before .before .before .before .before .keys2 .given, c .before .before .before .if1 .left) in
+    sym (length-take-le n t h)
+
+slice-aggregate-answer-2 : tie.Need-slice-aggregate-answer-2
+slice-aggregate-answer-2 c =
+    let t = c .before .before .before .before .before .before .before .before .before .before .before .before .before .prepare .last .1 .1 .1 .0 in
+    let n = c .before .before .before .before .before .before .c .given .0 .0 .«node_instances» in
+    let h : n ≤ length t = omega (arith, c .before .before .before .before .before .before .before .before .before .before .before .nodes2 .given, c .before .before .before .if2 .left) in
+    sym (length-take-le n t h)
+
+slice-aggregate-answer-3 : tie.Need-slice-aggregate-answer-3
+slice-aggregate-answer-3 c =
+    let t = c .before .before .before .before .before .before .before .before .before .before .before .before .before .before .prepare .last .1 .1 .1 .1 .0 in
+    let n = c .before .before .before .before .before .before .before .c .given .0 .0 .«node_instances» in
+    let h : n ≤ length t = omega (arith, c .before .before .before .before .before .before .before .before .before .before .before .rules2 .given, c .before .before .before .before .if2 .left) in
+    sym (length-take-le n t h)
+
+returns-3 : tie.Need-returns-3
+returns-3 c =
+    let z = sized _ (λ i. c .before .before .before .before .before .before .before .before .before .before .before .before .before .before .before .before .before .before .before .before .before .before .before .before .before .before .before .shared-slice-known .given i .fits) _ (checkedValues (Checked.Accepted (c .before .before .before .before .before .before .before .before .before .before .before .c .given .0 .0))) refl (sym (ap checkedValues (c .before .before .before .before .before .before .before .before .before .before .before .c .given .1)) ∙ c .before .before .before .before .before .before .before .before .before .before .before .before .before .before .before .before .before .before .prepare .ensures .0) in
+    let y = tabled _ (λ i. c .before .before .before .before .before .before .before .before .before .before .before .before .before .before .before .before .before .before .before .before .before .before .before .before .before .before .before .shared-slice-known .given i .fits) _ _ _ _ z _ (length-replicate {A = ℕ} 1024 0) (length-replicate {A = ℕ} 256 0) (length-replicate {A = ℕ} 256 0) (length-replicate {A = ℕ} 16384 0) refl (c .before .before .before .before .before .before .before .before .before .before .before .before .before .before .before .before .before .before .prepare .ensures .1) in
+    c .before .before .answer .ensures (y .0) (y .1)
+
+returns-4 : tie.Need-returns-4
+returns-4 c =
+    answer-refused _ _ _ _ _ (kind-some (c .before .c2 .given .0 .0 .kind)) (sym (ap checkedValues (c .before .c2 .given .1)) ∙ c .before .before .before .before .before .before .before .before .prepare .ensures .0)
+
+pub isolate-spec : {M : Type 1} → statement M
+isolate-spec =
+    tie.close
+    (tie.spec
+    (λ c. search needs)
+    (λ c. search needs)
+    (λ c. search needs)
+    (λ c. search needs)
+    (λ c. search needs)
+    (λ c κs. search needs)
+    (λ c. search needs)
+    returns
+    returns-2
+    (λ c. search needs)
+    (λ c. search needs)
+    slice-aggregate-answer
+    (λ c. search needs)
+    slice-aggregate-answer-2
+    (λ c. search needs)
+    slice-aggregate-answer-3
+    (λ c. search needs)
+    (λ c κs. search needs)
+    (λ c. search needs)
+    (λ c. search needs)
+    returns-3
+    returns-4)
