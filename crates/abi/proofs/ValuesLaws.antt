@@ -6,6 +6,8 @@ use lib.ListN.{length}
 use borrow.Author.Tests.{le-leb, lt-leb}
 use Rattle.tables.specs.Tables.{written}
 use Rattle.tables.proofs.TablesLaws.{written-front}
+use Rattle.isolation.specs.declared.Isolated.{Isolated}
+use Rattle.isolation.specs.Outcome.{Outcome, outcomeOf}
 use Rattle.abi.specs.Values.{answered}
 
 pub answered-short : (xs out : List ℕ) → length out < length xs → out ≡ answered xs out
@@ -25,3 +27,7 @@ refused-four p out e = rw e
 
 pub answered-as : {A : Type 0} (f : A → List ℕ) (out : List ℕ) {v w : A} {y : List ℕ} → v ≡ w → y ≡ answered (f v) out → y ≡ answered (f w) out
 answered-as f out e d = d ∙ ap (λ x. answered (f x) out) e
+
+-- The outcome of an answer whose case is known.
+pub outcome-as : (l : List ℕ) {r s : Isolated} {o : Outcome} → r ≡ s → outcomeOf r l ≡ o → outcomeOf s l ≡ o
+outcome-as l e d = sym (ap (λ x. outcomeOf x l) e) ∙ d

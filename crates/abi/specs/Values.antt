@@ -5,15 +5,19 @@ use mathlib.Core.List.{List, [], _∷_, _++_}
 use lib.Dec.{leb}
 use lib.ListN.{length, drop}
 use Rattle.format.specs.Refusals.{CheckValues, AddressValues}
+use Rattle.isolation.specs.Outcome.{Outcome}
 
 -- A lent list after some numbers were put at its front; a list that is too short keeps what it has.
 unfoldable pub answered : List ℕ → List ℕ → List ℕ
 answered xs out = cond (leb (length xs) (length out)) (xs ++ drop (length xs) out) out
 
--- The values of the checker's answer and of the address query's, in the order in which they are put.
+-- The values of the checker's answer, of the address query's and of isolation's, in the order in which they are put.
 abbrev pub checkList : CheckValues → List ℕ
 checkList v =
     v .number ∷ v .place ∷ v .model ∷ v .registers ∷ v .registerInstances ∷ v .nodes ∷ v .nodeInstances ∷ v .roots ∷ []
 
 abbrev pub addressList : AddressValues → List ℕ
 addressList v = v .number ∷ v .place ∷ v .offset ∷ v .size ∷ []
+
+abbrev pub isolateList : Outcome → List ℕ
+isolateList o = o .number ∷ o .place ∷ o .records ∷ o .steps ∷ []

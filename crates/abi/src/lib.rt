@@ -2,12 +2,15 @@
 use format::Address;
 use format::Checked;
 use format::number;
+use isolation::Isolated;
+use isolation::isolate;
 use reader::address::address;
 use reader::check;
 ghost use mathlib.Core.List.{[], _∷_};
 ghost use mathlib.Core.Path.{_≡_};
 ghost use Rattle.format.specs.Verdict.{check, address};
-ghost use Rattle.abi.specs.Values.{answered, checkList, addressList};
+ghost use Rattle.isolation.specs.Outcome.{isolate};
+ghost use Rattle.abi.specs.Values.{answered, checkList, addressList, isolateList};
 
 // Four numbers at the front of a list that has room for them.
 fn put_four(out: &mut [u64], a: u64, b: u64, c: u64, d: u64)
@@ -79,6 +82,31 @@ pub extern "C" fn lutemarble_address(file: &[u8], id: u64, instance: u8, out: &m
         Address::Refused(r) => {
             let kind = r.kind;
             put_four(out, number(kind) as u64, r.place as u64, 0, 0);
+        }
+    }
+}
+
+// Isolation: number, place, records and steps. The records go to the front of the lent list; a refusal leaves it as it is.
+#[no_mangle]
+pub extern "C" fn lutemarble_isolate(
+    file: &[u8],
+    attention: u8,
+    words: &[u64],
+    read: &[u8],
+    list: &mut [u8],
+    out: &mut [u64],
+)
+    ensures { λ r. ⌜ now (list .exit) ≡ isolate (now (file .entry)) attention (now (words .entry)) (now (read .entry)) (now (list .entry)) .list ⌝ }
+    ensures { λ r. ⌜ now (out .exit) ≡ answered (isolateList (isolate (now (file .entry)) attention (now (words .entry)) (now (read .entry)) (now (list .entry)))) (now (out .entry)) ⌝ }
+{
+    let a = isolate(file, attention, words, read, list);
+    match a {
+        Isolated::Done(i) => {
+            put_four(out, 0, 0, i.records as u64, i.steps as u64);
+        }
+        Isolated::Refused(refusal) => {
+            let kind = refusal.kind;
+            put_four(out, number(kind) as u64, refusal.place as u64, 0, 0);
         }
     }
 }
