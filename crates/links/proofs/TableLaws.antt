@@ -16,6 +16,7 @@ use Rattle.format.specs.Lookup.{position, at, gathered, NodeEntry}
 use Rattle.format.specs.Rules.{Every, Distinct}
 use Rattle.format.specs.Tree.{Child, NodeInstance}
 use Rattle.format.proofs.EveryLaws.{or-false-left, or-false-right}
+use Rattle.format.proofs.FaultsLaws.{at-none}
 use Rattle.format.proofs.PositionsLaws.{at-first, at-next, every-at}
 use Rattle.tables.specs.Faults.{positionIn}
 use Rattle.walk.specs.TableGraph.{childAt}
@@ -24,18 +25,11 @@ use Rattle.links.proofs.ChildrenLaws.{childless-length, child-row-lengt
 
 -- What stands at a position, or nothing.
 
-pub at-none : {A : Type 0} (i : ℕ) → _≡_ {A = List A} (at i []) []
-unfolding at
-at-none zero = refl
-at-none (suc i) = refl
-
-pub at-there : {A : Type 0} (i : ℕ) (xs : List A) → i < length xs → (x : A) × (at i xs ≡ x ∷ [])
-at-there i [] h = absurd (omega arith)
-at-there zero (x ∷ xs) h = (x, at-first x xs)
-at-there (suc i) (x ∷ xs) h = let r = at-there i xs (omega arith) in (r .0, at-next i x xs ∙ r .1)
+at-empty : {A : Type 0} (i : ℕ) → _≡_ {A = List A} (at i []) []
+at-empty i = at-none i [] (omega arith)
 
 pub at-most : {A : Type 0} (i : ℕ) (xs : List A) → (at i xs ≡ []) ⊎ ((x : A) × (at i xs ≡ x ∷ []))
-at-most i [] = inl (at-none i)
+at-most i [] = inl (at-empty i)
 at-most zero (x ∷ xs) = inr (x, at-first x xs)
 at-most (suc i) (x ∷ xs) = ⊎-elim (λ e. inl (at-next i x xs ∙ e)) (λ r. inr (r .0, at-next i x xs ∙ r .1)) (at-most i xs)
 
@@ -44,7 +38,7 @@ module _ {A : Type 0} (f : A → List ℕ) (rows : (x : A) → length (f x) ≡ 
   pub rows-place : (xs : List A) (i : ℕ) {x : A} → at i xs ≡ x ∷ [] → (b : ℕ) → b < 64
       → (getD (gathered f xs ++ rest) (i * 64 + b) 0 ≡ getD (f x) b 0) × (i * 64 + b < length (gathered f xs ++ rest))
   unfolding gathered
-  rows-place [] i {x} e b h = let y : [] ≡ x ∷ [] = sym (at-none i) ∙ e in let z : _≡_ {A = ℕ} 0 1 = cc in absurd (omega arith)
+  rows-place [] i {x} e b h = let y : [] ≡ x ∷ [] = sym (at-empty i) ∙ e in let z : _≡_ {A = ℕ} 0 1 = cc in absurd (omega arith)
   rows-place (y ∷ xs) zero {x} e b h =
       let w : y ≡ x = let z : y ∷ [] ≡ x ∷ [] = sym (at-first y xs) ∙ e in cc in
       let n : 0 * 64 + b ≡ b = omega arith in
@@ -78,7 +72,7 @@ for-bit-on b k ks e = rw e (at-next (position (λ k. eqb (k .bit) b) ks) k ks)
 
 for-bit-none : (b : ℕ) (ks : List Child) → member b (map (λ k. k .bit) ks) ≡ false → forBit b ks ≡ []
 unfolding member
-for-bit-none b [] e = at-none _
+for-bit-none b [] e = at-empty _
 for-bit-none b (k ∷ ks) e =
     let n : eqb b (k .bit) ≡ false = or-false-left _ _ e in
     for-bit-on b k ks (ne-eqb (k .bit) b (λ q. eqb-false b (k .bit) n (sym q))) ∙ for-bit-none b ks (or-false-right (eqb b (k .bit)) _ e)
@@ -86,7 +80,7 @@ for-bit-none b (k ∷ ks) e =
 module _ (nodes : List ℕ) (b : ℕ) where
   linked-child : (row : List ℕ) (ks : List Child) → b < length row → Distinct (map (λ k. k .bit) ks) → getD (linked nodes row 0 ks) b 0 ≡ numberOr nodes (getD row b 0) (forBit b ks)
   unfolding linked Distinct
-  linked-child row [] h d = sym (ap (numberOr nodes (getD row b 0)) (at-none _))
+  linked-child row [] h d = sym (ap (numberOr nodes (getD row b 0)) (at-empty _))
   linked-child row (k ∷ ks) h d =
       let x = childNumber nodes k in
       let z : 0 + k .bit ≡ k .bit = omega arith in

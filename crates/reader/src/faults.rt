@@ -78,7 +78,7 @@ fn table_faults(
     }
 }
 
-// The first fault of 12 to 14 of a file whose layout was read; where there is none, the place after the roots section. It reads the file once to fill its tables, and once to look up its names.
+// The first fault of 12 to 14 of a file whose layout was read; where there is none, the place after the roots section. It reads the file once for its rows, the nodes section once to look up its names, and once for its children.
 pub fn faults(s: &[u8], l: Layout) -> NextRead
     ensures { λ r. ⌜ ((c : Chip) → done (laidOut l) (l .end) ≡ layoutAt (now (s .entry)) 0 → fileAt (now (s .entry)) true 0 ≡ done c (l .end) → nextParsed r ≡ judgedAt (referenceFaults c ++ cycleFaults c) (l .end)) ⌝ }
 {

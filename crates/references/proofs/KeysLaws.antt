@@ -12,12 +12,12 @@ use borrow.Author.Tests.{eq-eqb, ne-eqb, eqb-true, eqb-false, lt-ltb, le-ltb, lt
 use Rattle.numbers.specs.Bits.{bitOf}
 use Rattle.numbers.proofs.Bools.{either, clash, and-left, and-right, and-both}
 use Rattle.format.specs.Fields.{readable}
-use Rattle.format.specs.Lookup.{some, position, at, gathered}
+use Rattle.format.specs.Lookup.{some, position, at}
 use Rattle.format.specs.References.{Named, namedBy, namedByAll}
 use Rattle.format.specs.Rules.{Every, ExprFits, ExprsFit}
 use Rattle.format.specs.Tree.{Expr, Exprs, reading, constant, all, any, inverse, left, right, none, more}
 use Rattle.format.proofs.EveryLaws.{every-append-in}
-use Rattle.format.proofs.PositionsLaws.{at-first, at-next}
+use Rattle.format.proofs.PositionsLaws.{position-at}
 use Rattle.tables.specs.Tables.{keyOf}
 use Rattle.tables.specs.Faults.{positionIn, present}
 use Rattle.index.specs.Rows.{kindOf, wantedKind}
@@ -78,39 +78,9 @@ module _ {E : Type 0} (test : E → Bool) where
       go true r = sym (lt-ltb 0 (suc (length es)) (omega arith))
       go false r = r ∙ ltb-suc (position test es) (length es)
 
-  -- Some element passes exactly when one at some position does.
+  -- What passes stands somewhere.
   pub some-out : (es : List E) → some test es ≡ true → (i : ℕ) × (e : E) × (at i es ≡ e ∷ []) × (test e ≡ true)
-  unfolding some
-  some-out [] h = clash h refl
-  some-out (e ∷ es) h = go (test e) refl h (some-out es)
-    where
-      go : (t : Bool) → test e ≡ t → t || some test es ≡ true → (some test es ≡ true → (i : ℕ) × (e : E) × (at i es ≡ e ∷ []) × (test e ≡ true))
-          → (i : ℕ) × (f : E) × (at i (e ∷ es) ≡ f ∷ []) × (test f ≡ true)
-      go true p q r = (0, e, at-first e es, p)
-      go false p q r = let d = r q in (suc (d .0), d .1, at-next (d .0) e es ∙ d .2, d .3)
-
-  pub some-in : (es : List E) (i : ℕ) {e : E} → at i es ≡ e ∷ [] → test e ≡ true → some test es ≡ true
-  unfolding some at
-  some-in [] zero q h = let z : _≡_ {A = ℕ} 0 1 = cc in absurd (omega arith)
-  some-in [] (suc i) q h = let z : _≡_ {A = ℕ} 0 1 = cc in absurd (omega arith)
-  some-in (x ∷ es) zero {e} q h = let w : x ≡ e = cc in rw w (ap (λ t. t || some test es) h)
-  some-in (x ∷ es) (suc i) q h = go (test x) (some-in es i q h)
-    where
-      go : (t : Bool) → some test es ≡ true → t || some test es ≡ true
-      go true r = refl
-      go false r = r
-
-  -- The first that passes stands at the position.
-  pub position-at : (es : List E) → position test es < length es → (e : E) × (at (position test es) es ≡ e ∷ []) × (test e ≡ true)
-  unfolding position
-  position-at [] h = absurd (omega arith)
-  position-at (x ∷ es) h = go (test x) refl h (position-at es)
-    where
-      go : (t : Bool) → test x ≡ t → cond t 0 (suc (position test es)) < suc (length es)
-          → (position test es < length es → (e : E) × (at (position test es) es ≡ e ∷ []) × (test e ≡ true))
-          → (e : E) × (at (cond t 0 (suc (position test es))) (x ∷ es) ≡ e ∷ []) × (test e ≡ true)
-      go true p l r = (x, at-first x es, p)
-      go false p l r = let d = r (omega arith) in (d .0, at-next (position test es) x es ∙ d .1, d .2)
+  some-out es h = let r = position-at test es h in (position test es, r .0, r .1, r .2)
 
 -- What stands at a position of a column.
 pub column-at : {E : Type 0} (f : E → ℕ) (es : List E) (i : ℕ) {e : E} → at i es ≡ e ∷ [] → getD (map f es) i 0 ≡ f e
@@ -124,11 +94,6 @@ pub every-all : {A : Type 0} (P : A → Type 0) → ((x : A) → P x) → (xs : 
 unfolding Every
 every-all P f [] = tt
 every-all P f (x ∷ xs) = (f x, every-all P f xs)
-
-pub gathered-same : {A B : Type 0} (f g : A → List B) (xs : List A) → Every (λ x. f x ≡ g x) xs → gathered f xs ≡ gathered g xs
-unfolding gathered Every
-gathered-same f g [] h = refl
-gathered-same f g (x ∷ xs) h = rw (h .0) (ap (λ r. g x ++ r) (gathered-same f g xs (h .1)))
 
 -- The names in an expression fit their fields.
 abbrev pub Fitting : Named → Type 0

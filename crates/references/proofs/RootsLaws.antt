@@ -1,13 +1,13 @@
 -- The fault of a root.
-use Prim.Native.Nat.{ℕ, zero, suc, _≤_, _<_, _^_}
-use mathlib.Core.Bool.{Bool, true, false, not, _&&_, _||_}
+use Prim.Native.Nat.{ℕ, _≤_, _<_, _^_}
+use mathlib.Core.Bool.{Bool, true, not, _&&_}
 use mathlib.Core.Logic.{_⊎_, ⊎-elim}
 use mathlib.Core.List.{List, [], _∷_, map}
 use mathlib.Core.Path.{_≡_, refl, sym, _∙_, ap, subst}
 use native.Mathlib.Omega.{arith}
 use lib.Dec.{eqb, ltb}
-use lib.ListN.{length, getD, length-map, drop-of-length-le}
-use borrow.Author.Tests.{eq-eqb, ne-eqb, ltb-true, ltb-false}
+use lib.ListN.{length, getD, length-map}
+use borrow.Author.Tests.{eq-eqb, ne-eqb, ltb-false}
 use Rattle.numbers.proofs.Bools.{either, clash, and-left, and-right, and-both}
 use Rattle.format.specs.Fields.{fieldAt, attentionAt}
 use Rattle.format.specs.FileLayout.{rootAt}
@@ -19,7 +19,9 @@ use Rattle.format.specs.Rules.{Every, FieldsFit, NamesUnique}
 use Rattle.format.specs.Tree.{Root, NodeInstance, Chip}
 use Rattle.format.proofs.EveryLaws.{every-map}
 use Rattle.format.proofs.ParsedLaws.{then-out, making-out, requiring-out}
-use Rattle.format.proofs.PositionsLaws.{at-first, at-next, every-at, node-position}
+use Rattle.format.proofs.FaultsLaws.{at-none, some-none}
+use Rattle.format.proofs.GatheredLaws.{gathered-same}
+use Rattle.format.proofs.PositionsLaws.{every-at, at-inside, position-at, some-at, some-one, node-position}
 use Rattle.tables.specs.Faults.{judgedAt, positionIn}
 use Rattle.index.specs.Rows.{ReadAgain, entryPlace}
 use Rattle.index.specs.Columns.{nodeKeys}
@@ -29,37 +31,15 @@ use Rattle.links.proofs.LinksLaws.{instance-rule-some}
 use Rattle.references.specs.declared.roots.RootEntry.{RootEntry}
 use Rattle.references.specs.FaultsIn.{ruled, rootFaultsIn}
 use Rattle.references.specs.RootIn.{rootPosition, rootOf}
-use Rattle.references.proofs.KeysLaws.{some-out, some-in, position-at, column-at, gathered-same}
+use Rattle.references.proofs.KeysLaws.{some-position, some-out, column-at}
 use Rattle.references.proofs.TablesLaws.{same-bool, node-position-in}
-
--- What stands inside a list, and what does not.
-pub at-inside : {E : Type 0} (es : List E) (i : ℕ) → i < length es → (e : E) × (at i es ≡ e ∷ [])
-at-inside [] i h = absurd (omega arith)
-at-inside (e ∷ es) zero h = (e, at-first e es)
-at-inside (e ∷ es) (suc i) h = let r = at-inside es i (omega arith) in (r .0, at-next i e es ∙ r .1)
-
-pub at-outside : {E : Type 0} (es : List E) (i : ℕ) → length es ≤ i → at i es ≡ []
-unfolding at
-at-outside es i h = rw (drop-of-length-le es h)
-
-some-one : {E : Type 0} (q : E → Bool) (e : E) → some q (e ∷ []) ≡ q e
-unfolding some
-some-one q e = go (q e)
-  where
-    go : (t : Bool) → t || false ≡ t
-    go true = refl
-    go false = refl
-
-some-none : {E : Type 0} (q : E → Bool) → some q [] ≡ false
-unfolding some
-some-none q = refl
 
 module _ (nodes places : List ℕ) (attention id number : ℕ) {k : ℕ} (found : k ≡ positionIn nodes id number) (es : List NodeEntry) where
   pub root-absent : (p next : ℕ) → places ≡ map entryPlace es → length places ≤ k → refused 12 p ≡ judgedAt (unless (ruled nodes es attention id number) 12 p) next
   unfolding ruled unless judgedAt
   root-absent p next c h =
       let l : length es ≤ k = let z : length places ≡ length es = ap length c ∙ length-map es entryPlace in omega arith in
-      rw (← found, at-outside es k l, some-none (λ (e : NodeEntry). hasRule attention (e .instance)))
+      rw (← found, some-none (λ (e : NodeEntry). hasRule attention (e .instance)) (at-none k es l))
 
   module _ (s : List ℕ) (again : Every (ReadAgain s) es) (c : places ≡ map entryPlace es) (h : k < length places) {r : ℕ}
       (rule : (total : ℕ) (before : List NodeInstance) (i : NodeInstance) (m : ℕ) → nodeInstanceAt s true total before (getD places k 0) ≡ done i m → r ≡ rulePlace attention (i .rules)) where
@@ -67,7 +47,7 @@ module _ (nodes places : List ℕ) (attention id number : ℕ) {k : ℕ} (found 
     unfolding ruled hasRule
     root-rule =
         let l : k < length es = let z : length places ≡ length es = ap length c ∙ length-map es entryPlace in omega arith in
-        let a = at-inside es k l in
+        let a = at-inside k es l in
         let e = a .0 in
         let g = every-at (ReadAgain s) k es again (a .1) in
         let p : getD places k 0 ≡ entryPlace e = ap (λ z. getD z k 0) c ∙ column-at entryPlace es k (a .1) in
@@ -176,12 +156,12 @@ module _ (c : Chip) (fit : FieldsFit c) (unique : NamesUnique c) where
       (same-bool _ _
       (λ q. ⊎-elim
       (λ h.
-      let d = position-at (nodeNamed id number) (nodeEntries c) (ltb-true _ _ h) in
+      let d = position-at (nodeNamed id number) (nodeEntries c) (some-position (nodeNamed id number) (nodeEntries c) ∙ h) in
       let w : hasRule attention (d .0 .instance) ≡ true = sym (some-one (λ (e : NodeEntry). hasRule attention (e .instance)) (d .0)) ∙ ap (some (λ (e : NodeEntry). hasRule attention (e .instance))) (sym (d .1)) ∙ q in
-      some-in _ (nodeEntries c) _ (d .1) (and-both (d .2) w))
+      some-at _ _ (nodeEntries c) (d .1) (and-both (d .2) w))
       (λ h.
-      let z = at-outside (nodeEntries c) _ (ltb-false _ _ h) in
-      clash q (ap (some (λ (e : NodeEntry). hasRule attention (e .instance))) z ∙ some-none (λ (e : NodeEntry). hasRule attention (e .instance))))
+      let z = at-none _ (nodeEntries c) (ltb-false _ _ h) in
+      clash q (some-none (λ (e : NodeEntry). hasRule attention (e .instance)) z))
       (either (ltb (position (nodeNamed id number) (nodeEntries c)) (length (nodeEntries c)))))
       (λ q.
       let o = some-out (λ e. nodeNamed id number e && hasRule attention (e .instance)) (nodeEntries c) q in

@@ -7,7 +7,7 @@ use mathlib.Core.Path.{_≡_, refl, sym, _∙_, ap, subst}
 use native.Mathlib.Omega.{arith}
 use lib.Dec.{eqb, ltb}
 use lib.ListN.{length, getD, length-map, List·getD-eq-default}
-use borrow.Author.Tests.{ne-eqb, ltb-true, ltb-false}
+use borrow.Author.Tests.{ne-eqb, lt-ltb, ltb-true, ltb-false}
 use Rattle.numbers.proofs.Bools.{either, clash, and-left, and-right, and-both}
 use Rattle.format.specs.Lookup.{some, position, at, gathered, RegisterEntry, registerEntries, entriesOf, registerNamed, NodeEntry, nodeEntries, nodeEntriesOf, nodeNamed, registerPosition}
 use Rattle.format.specs.References.{Named, Fault, unless, namedBy, fits, hasRegister, hasNode, captureFaults, namedFaults, ruleFaults, childFaults, instanceFaults}
@@ -15,13 +15,14 @@ use Rattle.format.specs.Rules.{Every, ExprFits, FieldsFit, NamesUnique, allCapt
 use Rattle.format.specs.Tree.{Capture, Rule, Child, Chip}
 use Rattle.format.proofs.EveryLaws.{every-map, every-both, every-list-in, every-gathered-in, every-gathered-out}
 use Rattle.format.proofs.Grouping.{LayoutMeets}
-use Rattle.format.proofs.PositionsLaws.{register-position, every-at}
+use Rattle.format.proofs.GatheredLaws.{gathered-same}
+use Rattle.format.proofs.PositionsLaws.{every-at, position-at, some-at, register-position}
 use Rattle.tables.specs.Tables.{keyOf}
 use Rattle.tables.specs.Faults.{positionIn, present, nameFaults}
 use Rattle.index.specs.Rows.{kindOf, wantedKind}
 use Rattle.index.specs.Columns.{registerKeys, registerKinds, nodeKeys}
 use Rattle.references.specs.FaultsIn.{captureFaultsIn, ruleFaultsIn, childFaultsIn, instanceFaultsIn}
-use Rattle.references.proofs.KeysLaws.{kind-same, position-keys, some-position, some-out, some-in, position-at, column-at, every-all, gathered-same, Fitting, names-fit}
+use Rattle.references.proofs.KeysLaws.{kind-same, position-keys, some-position, some-out, column-at, every-all, Fitting, names-fit}
 
 pub same-bool : (a b : Bool) → (a ≡ true → b ≡ true) → (b ≡ true → a ≡ true) → a ≡ b
 same-bool true b f g = sym (f refl)
@@ -74,13 +75,13 @@ module _ (c : Chip) (fit : FieldsFit c) where
           ≡ some (λ e. registerNamed id number e && fits type e) (registerEntries c)
       unfolding fits registerPosition
       kind-inside h =
-          let d = position-at (registerNamed id number) (registerEntries c) h in
+          let d = position-at (registerNamed id number) (registerEntries c) (some-position (registerNamed id number) (registerEntries c) ∙ lt-ltb _ _ h) in
           let e = d .0 in
           let k : getD (registerKinds c) (position (registerNamed id number) (registerEntries c)) 0 ≡ kindOf (e .type) (e .flags) = column-at (λ e. kindOf (e .type) (e .flags)) (registerEntries c) _ (d .1) in
           let f = every-at _ _ (registerEntries c) registers-fit (d .1) in
           rw (k, kind-same (e .type) (e .flags) type (f .1))
           (same-bool _ _
-          (λ q. some-in _ (registerEntries c) _ (d .1) (and-both (d .2) q))
+          (λ q. some-at _ _ (registerEntries c) (d .1) (and-both (d .2) q))
           (λ q.
           let o = some-out (λ e. registerNamed id number e && fits type e) (registerEntries c) q in
           let p : position (registerNamed id number) (registerEntries c) ≡ o .0 = register-position c unique (o .0) id number (o .2) (and-left _ _ (o .3)) in
@@ -99,7 +100,7 @@ module _ (c : Chip) (fit : FieldsFit c) where
           (same-bool _ _ (λ q. clash q refl)
           (λ q.
           let o = some-out (λ e. registerNamed id number e && fits type e) (registerEntries c) q in
-          let s = some-in (registerNamed id number) (registerEntries c) (o .0) (o .2) (and-left _ _ (o .3)) in
+          let s = some-at (registerNamed id number) (o .0) (registerEntries c) (o .2) (and-left _ _ (o .3)) in
           let b : ltb (position (registerNamed id number) (registerEntries c)) (length (registerEntries c)) ≡ true = sym (some-position (registerNamed id number) (registerEntries c)) ∙ s in
           absurd (let z : position (registerNamed id number) (registerEntries c) < length (registerEntries c) = ltb-true _ _ b in omega arith)))
 
