@@ -8,7 +8,7 @@ pub mod ActivityLaws
 pub mod TablesLaws
 pub mod UnreadLaws
 pub mod AnswerLaws
-mod SamplesHold
+pub mod SamplesHold
 pub mod SettleLaws
 pub mod RootLaws
 pub mod PreparedLaws

@@ -55,7 +55,7 @@ kind-some NoRoom = lit< tt
 
 -- What the checker's answer says of the verdict.
 module _ (file : List ℕ) where
-  refused-by : (q : Parsed Chip) → verdict file ≡ q → {n p : ℕ} → 0 < n → refusedWith n p ≡ checkOf q → q ≡ refused n p
+  pub refused-by : (q : Parsed Chip) → verdict file ≡ q → {n p : ℕ} → 0 < n → refusedWith n p ≡ checkOf q → q ≡ refused n p
   unfolding checkOf
   refused-by (done c end) v {n} {p} h e = let z : n ≡ 0 = ap (λ x. x .number) e in absurd (omega arith)
   refused-by (refused k m) v {n} {p} h e =

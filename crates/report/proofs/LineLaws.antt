@@ -1,0 +1,84 @@
+-- The laws of the lines.
+use Prim.Native.Nat.{ℕ, zero, suc, _+_, _*_, _^_, _≤_, _<_}
+use mathlib.Core.List.{List, [], _∷_, _++_, append-assoc, append-nil}
+use mathlib.Core.Path.{_≡_, refl, sym, _∙_, ap}
+use native.Mathlib.Nat.{add-zero}
+use native.Mathlib.Omega.{arith}
+use lib.Dec.{lit<, lit≤}
+use lib.ListN.{length, drop, getD, length-append}
+use lib.Seq.{drop-cons, drop-drop}
+use Rattle.numbers.specs.BigEndian.{bigEndian}
+use Rattle.numbers.specs.Field.{field}
+use Rattle.numbers.proofs.BigEndianLaws.{Bytes, bytes-drop}
+use Rattle.numbers.proofs.FieldLaws.{field-lt, field-byte}
+use Rattle.isolation.specs.Records.{recordSize}
+use Rattle.tables.specs.Tables.{written}
+use Rattle.report.specs.Text.{Put, decimal, named, typeWord, nodeWord, instWord, bitWord, stepsWord, refusedWord, placeWord, lineEnd, bitLine, recordLine, recordLines, stepsLine, refusedLine}
+use Rattle.report.proofs.DecimalLaws.{decimal-short, decimal-few}
+use Rattle.report.proofs.TextLaws.{put-then, put-as}
+
+-- A field of what follows a place.
+field-drop : (s : List ℕ) (at k n : ℕ) → field (drop at s) k n ≡ field s (at + k) n
+unfolding field
+field-drop s at k n = rw drop-drop
+
+-- A field of two bytes.
+field-two : (s : List ℕ) (at : ℕ) → at + 2 ≤ length s → field s at 2 ≡ getD s at 0 * 256 + getD s (suc at) 0
+unfolding field bigEndian
+field-two s at h = rw (drop-cons s at 0 (omega arith), drop-cons s (suc at) 0 (omega arith)) (omega arith)
+
+-- The line of the record at a place, by its bytes.
+pub line-at : (s : List ℕ) (at : ℕ) → at + 8 ≤ length s
+    → bitLine (getD s at 0) (getD s (at + 2) 0 * 256 + getD s (at + 3) 0) (getD s (at + 4) 0) (getD s (at + 1) 0) ≡ recordLine (drop at s)
+unfolding recordLine
+line-at s at h =
+    let a : field (drop at s) 0 1 ≡ getD s at 0 = field-drop s at 0 1 ∙ ap (λ k. field s k 1) (add-zero at) ∙ field-byte s at (omega arith) in
+    let b : field (drop at s) 1 1 ≡ getD s (at + 1) 0 = field-drop s at 1 1 ∙ field-byte s (at + 1) (omega arith) in
+    let e : suc (at + 2) ≡ at + 3 = omega arith in
+    let d : field (drop at s) 2 2 ≡ getD s (at + 2) 0 * 256 + getD s (at + 3) 0 =
+    field-drop s at 2 2 ∙ field-two s (at + 2) (omega arith) ∙ ap (λ k. getD s (at + 2) 0 * 256 + getD s k 0) e in
+    let f : field (drop at s) 4 1 ≡ getD s (at + 4) 0 = field-drop s at 4 1 ∙ field-byte s (at + 4) (omega arith) in
+    rw (a, b, d, f)
+
+-- A line has at most 37 bytes.
+named-short : (w : List ℕ) (k n : ℕ) → 1 ≤ k → n < 10 ^ k → length (named w n) ≤ length w + k
+unfolding named
+named-short w k n l h = rw (length-append w (decimal n)) (omega (arith, decimal-short k n l h))
+
+pub line-short : (r : List ℕ) → Bytes r → length (recordLine r) ≤ 37
+unfolding recordLine bitLine typeWord nodeWord instWord bitWord lineEnd
+line-short r h =
+    let one : (k : ℕ) → field r k 1 < 10 ^ 3 = λ k. omega (arith, field-lt r k 1 h) in
+    let two : field r 2 2 < 10 ^ 5 = omega (arith, field-lt r 2 2 h) in
+    let a = named-short typeWord 3 (field r 0 1) (lit≤ tt) (one 0) in
+    let b = named-short nodeWord 5 (field r 2 2) (lit≤ tt) two in
+    let d = named-short instWord 3 (field r 4 1) (lit≤ tt) (one 4) in
+    let e = named-short bitWord 3 (field r 1 1) (lit≤ tt) (one 1) in
+    simp length-append (omega (arith, a, b, d, e))
+
+pub lines-short : (n : ℕ) (list : List ℕ) → Bytes list → length (recordLines n list) ≤ 37 * n
+unfolding recordLines recordSize
+lines-short zero list h = omega arith
+lines-short (suc n) list h =
+    rw (length-append (recordLine list) (recordLines n (drop 8 list)))
+    (omega (arith, line-short list h, lines-short n (drop 8 list) (bytes-drop 8 list h)))
+
+-- One line more.
+lines-more : (i : ℕ) (list : List ℕ) → recordLines (suc i) list ≡ recordLines i list ++ recordLine (drop (i * 8) list)
+unfolding recordLines recordSize
+lines-more zero list = append-nil (recordLine list)
+lines-more (suc i) list =
+    let e : 8 + i * 8 ≡ suc i * 8 = omega arith in
+    ap (λ u. recordLine list ++ u) (lines-more i (drop 8 list) ∙ ap (λ u. recordLines i (drop 8 list) ++ recordLine u) (drop-drop (i * 8) 8 list ∙ ap (λ k. drop k list) e))
+    ∙ sym (append-assoc (recordLine list) (recordLines i (drop 8 list)) (recordLine (drop (suc i * 8) list)))
+
+module _ (list : List ℕ) {t : List ℕ} where
+  pub lines-begin : Put t 0 (recordLines 0 list) t 0
+  unfolding recordLines written
+  lines-begin = record { text = refl; place = refl }
+
+  pub lines-next : (i : ℕ) {at k : ℕ} {u v : List ℕ} → Put t 0 (recordLines i list) u at → Put u at (recordLine (drop (i * 8) list)) v k → Put t 0 (recordLines (i + 1) list) v k
+  lines-next i p q = put-as (put-then p q) (sym (lines-more i list) ∙ ap (λ n. recordLines n list) (let e : suc i ≡ i + 1 = omega arith in e))
+
+  pub lines-end : (i n : ℕ) {at : ℕ} {u : List ℕ} → i ≤ n → n ≤ i → Put t 0 (recordLines i list) u at → Put t 0 (recordLines n list) u at
+  lines-end i n l h p = put-as p (ap (λ k. recordLines k list) (let e : i ≡ n = omega arith in e))

@@ -1,0 +1,44 @@
+-- Every starred sample of the table holds.
+use mathlib.Core.List.{List, [], _∷_}
+use mathlib.Core.Path.{refl}
+use Rattle.format.specs.Cycles.{leads, childEdge, OnCycle, cyclesFrom, cycleFaults}
+use Rattle.format.specs.ExpressionLayout.{operationOf, readingAt, operandsAt, shiftedAt, bodyAt, exprAt}
+use Rattle.format.specs.Fields.{fieldAt, same, keywordAt, countAt, knownType, typeAt, addressSize, knownFlags, flagsAt, readable, knownAttention, attentionAt, member, fresh}
+use Rattle.format.specs.FileLayout.{startAt, rootAt, rootsAt, fileAt}
+use Rattle.format.specs.Limits.{fileLimit, registerLimit, nodeLimit, levels, chipdata, regs, node, root}
+use Rattle.format.specs.Lookup.{some, position, at, gathered, entriesOf, registerEntries, registerNamed, nodeEntriesOf, nodeEntries, nodeNamed, registerPosition, nodePosition}
+use Rattle.format.specs.Meaning.{valueOf, bitsOf}
+use Rattle.format.specs.NodeLayout.{captureAt, ruleAt, childAt, instanceHeadAt, nodeInstanceAt, nodeTotal, nodeHeadAt, nodeAt, nodesAt}
+use Rattle.format.specs.Parsed.{andThen, making, require, requiring, rowAt}
+use Rattle.format.specs.References.{unless, fits, hasRule, hasRegister, hasNode, captureFaults, namedFaults, ruleFaults, childFaults, instanceFaults, rootFaults, referenceFaults, namedBy}
+use Rattle.format.specs.RegisterLayout.{registerTotal, registerInstanceAt, registerHeadAt, registerAt, registersAt}
+use Rattle.format.specs.Samples.{b1}
+use Rattle.format.specs.Tree.{gather}
+use Rattle.format.specs.Verdict.{judged, verdict, checkOf, check}
+use Rattle.graph.specs.Below.{any, count}
+use Rattle.graph.specs.Chains.{linked, reachedFrom, listed, below, kept, listedOf, reachedCount}
+use Rattle.graph.specs.Paths.{reachedIn, reached, onCycle}
+use Rattle.isolation.specs.ChipGraph.{firstOf, ruleFor, rootFor, childFor, ruleUnread, ruleActive, entryActive, childPosition, entryChild, chipGraph}
+use Rattle.isolation.specs.Outcome.{entryUnread, reachedUnread, written, allRead, fromRoot, isolateIn, isolate}
+use Rattle.isolation.specs.Readings.{readingsFit, hasValue, wordFor, unreadFaults}
+use Rattle.isolation.specs.Records.{recordSize, recordOf, recordBytes, listing, linkRecord, recordsOf}
+use Rattle.numbers.specs.BigEndian.{bigEndian, bytesOf}
+use Rattle.numbers.specs.Bits.{bitOf, wordOf, notBits, andBits, orBits, leftBits, rightBits}
+use Rattle.numbers.specs.Field.{present, field}
+use lib.ListN.{replicate}
+use Rattle.index.specs.Columns.{registerKeys}
+use Rattle.tables.specs.Tables.{keyOf}
+use Rattle.readings.specs.ReadingsFile.{readByte, valueIn, recordFits, recordsFit, fileFits, eachRecord}
+use Rattle.isolation.specs.Samples as calls
+use Rattle.isolation.proofs.SamplesHold as calls-hold
+use Rattle.report.specs.Report.{fileFromRoot, isolateFileIn, isolateFile, stationList, report}
+use Rattle.report.specs.Text.{spelled, decimal, typeWord, nodeWord, instWord, bitWord, stepsWord, refusedWord, placeWord, lineEnd, named, bitLine, recordLine, recordLines, stepsLine, refusedLine, textOf}
+use Rattle.report.specs.Samples.{Row, AllHold, called, reading, found, unknown, prints, samples}
+
+called-hold : (rs : List calls.Row) (rest : List Row) → calls.AllHold rs → AllHold rest → AllHold (called rs rest)
+called-hold [] rest h k = k
+called-hold (r ∷ rs) rest h k = (h .0, called-hold rs rest (h .1) k)
+
+pub samples-hold : AllHold samples
+unfolding leads childEdge OnCycle cyclesFrom cycleFaults operationOf readingAt operandsAt shiftedAt bodyAt exprAt fieldAt same keywordAt countAt knownType typeAt addressSize knownFlags flagsAt readable knownAttention attentionAt member fresh startAt rootAt rootsAt fileAt fileLimit registerLimit nodeLimit levels chipdata regs node root some position at gathered entriesOf registerEntries registerNamed nodeEntriesOf nodeEntries nodeNamed registerPosition nodePosition valueOf bitsOf captureAt ruleAt childAt instanceHeadAt nodeInstanceAt nodeTotal nodeHeadAt nodeAt nodesAt andThen making require requiring rowAt unless fits hasRule hasRegister hasNode captureFaults namedFaults ruleFaults childFaults instanceFaults rootFaults referenceFaults namedBy registerTotal registerInstanceAt registerHeadAt registerAt registersAt b1 gather judged verdict checkOf check any count linked reachedFrom listed below kept listedOf reachedCount reachedIn reached onCycle firstOf ruleFor rootFor childFor ruleUnread ruleActive entryActive childPosition entryChild chipGraph entryUnread reachedUnread written allRead fromRoot isolateIn isolate readingsFit hasValue wordFor unreadFaults recordSize recordOf recordBytes listing linkRecord recordsOf bigEndian bytesOf bitOf wordOf notBits andBits orBits leftBits rightBits present field keyOf readByte valueIn recordFits recordsFit fileFits eachRecord fileFromRoot isolateFileIn isolateFile stationList report spelled decimal typeWord nodeWord instWord bitWord stepsWord refusedWord placeWord lineEnd named bitLine recordLine recordLines stepsLine refusedLine textOf reading found unknown
+samples-hold = called-hold calls.samples prints calls-hold.samples-hold (refl, (refl, tt))

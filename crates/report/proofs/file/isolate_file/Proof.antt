@@ -1,0 +1,55 @@
+use Prim.Native.Nat.{ℕ, _≤_}
+use mathlib.Core.Path.{_≡_, refl, sym, _∙_, ap}
+use native.Mathlib.Omega.{arith}
+use lib.ListN.{length, length-replicate}
+use lib.Seq.{length-take-le}
+use borrow.Author.Needs.{needs}
+use Rattle.format.specs.declared.Checked
+use Rattle.format.specs.declared.Checked.{Checked}
+use Rattle.format.specs.Refusals.{checkedValues}
+use Rattle.isolation.proofs.PreparedLaws.{sized, tabled, kind-some}
+use Rattle.report.proofs.FileLaws.{answer-file}
+use Rattle.report.proofs.file.isolate_file.Statement.{statement}
+use Rattle.report.proofs.file.isolate_file.Tie as tie
+
+returns : tie.Need-returns
+returns c =
+    let z = sized _ (λ i. c .before .before .before .before .before .before .before .before .before .before .before .before .before .before .before .before .before .shared-slice-known .given i .fits) 0 (checkedValues (Checked.Accepted (c .before .before .c .given .0 .0))) refl (sym (ap checkedValues (c .before .before .c .given .1)) ∙ c .before .before .before .before .before .before .before .before .before .prepare .ensures .0) in
+    absurd (omega (arith, c .if1 .taken, z .registers, z .few))
+
+slice-aggregate-isolate-named : tie.Need-slice-aggregate-isolate-named
+slice-aggregate-isolate-named c =
+    let t = c .before .before .before .before .before .before .before .before .before .before .prepare .last .1 .1 .0 in
+    let n = c .before .before .before .c .given .0 .0 .«register_instances» in
+    let h : n ≤ length t = omega (arith, c .before .before .before .before .before .before .before .before .before .keys2 .given, c .before .if1 .left) in
+    sym (length-take-le n t h)
+
+returns-2 : tie.Need-returns-2
+returns-2 c =
+    let z = sized _ (λ i. c .before .before .before .before .before .before .before .before .before .before .before .before .before .before .before .before .before .before .before .before .before .before .shared-slice-known .given i .fits) _ (checkedValues (Checked.Accepted (c .before .before .before .before .before .before .before .c .given .0 .0))) refl (sym (ap checkedValues (c .before .before .before .before .before .before .before .c .given .1)) ∙ c .before .before .before .before .before .before .before .before .before .before .before .before .before .before .prepare .ensures .0) in
+    let y = tabled _ (λ i. c .before .before .before .before .before .before .before .before .before .before .before .before .before .before .before .before .before .before .before .before .before .before .shared-slice-known .given i .fits) _ _ _ _ z _ (length-replicate {A = ℕ} 1024 0) (length-replicate {A = ℕ} 256 0) (length-replicate {A = ℕ} 256 0) (length-replicate {A = ℕ} 16384 0) refl (c .before .before .before .before .before .before .before .before .before .before .before .before .before .before .prepare .ensures .1) in
+    c .before .before .isolate-named .ensures (y .0 .chip) (y .0 .end) (y .0 .accepted) (y .0 .keys-are)
+
+returns-3 : tie.Need-returns-3
+returns-3 c =
+    answer-file _ _ _ _ (kind-some (c .before .c2 .given .0 .0 .kind)) (sym (ap checkedValues (c .before .c2 .given .1)) ∙ c .before .before .before .before .before .before .before .before .prepare .ensures .0)
+
+pub isolate-file-spec : {M : Type 1} → statement M
+isolate-file-spec =
+    tie.close
+    (tie.spec
+    (λ c. search needs)
+    (λ c. search needs)
+    (λ c. search needs)
+    (λ c. search needs)
+    (λ c. search needs)
+    (λ c κs. search needs)
+    (λ c. search needs)
+    returns
+    (λ c. search needs)
+    slice-aggregate-isolate-named
+    (λ c κs. search needs)
+    (λ c. search needs)
+    (λ c. search needs)
+    returns-2
+    returns-3)

@@ -1,0 +1,10 @@
+use borrow.Author.Needs.{needs}
+use Rattle.tables.proofs.TablesLaws.{set-beyond}
+use Rattle.report.proofs.put_byte.Statement.{statement}
+use Rattle.report.proofs.put_byte.Tie as tie
+
+returns-2 : tie.Need-returns-2
+returns-2 c = set-beyond _ _ _ (c .if1 .left)
+
+pub put-byte-spec : {M : Type 1} → statement M
+put-byte-spec = tie.close (tie.spec (λ c. search needs) (λ c. search needs) (λ c. search needs) returns-2)

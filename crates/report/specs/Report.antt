@@ -1,0 +1,39 @@
+-- The station's answer. Document 01: "A small program that reads a file and a readings file of fixed names and prints the list, all numbers decimal."
+use Prim.Native.Nat.{ℕ}
+use mathlib.Core.Bool.{cond}
+use mathlib.Core.List.{List, [], _∷_}
+use lib.ListN.{replicate}
+use Rattle.format.specs.Fields.{knownAttention}
+use Rattle.format.specs.Parsed.{Parsed, done, refused}
+use Rattle.format.specs.Tree.{Root, Chip}
+use Rattle.format.specs.Verdict.{verdict}
+use Rattle.index.specs.Columns.{registerKeys}
+use Rattle.readings.specs.ReadingsFile.{fileFits, wordsOf, readOf}
+use Rattle.isolation.specs.ChipGraph.{rootFor}
+use Rattle.isolation.specs.Outcome.{Outcome, refusedOutcome, fromRoot}
+use Rattle.report.specs.Text.{textOf}
+
+-- A readings file in place of readings. 17: "for the readings file also a wrong size, ID, instance, zero byte or unread value"; 16 comes before it.
+unfoldable pub fileFromRoot : Chip → ℕ → List ℕ → List ℕ → List Root → Outcome
+fileFromRoot c attention readings list [] = refusedOutcome 16 0 list
+fileFromRoot c attention readings list (t ∷ ts) =
+    cond (fileFits (registerKeys c) readings)
+    (fromRoot c attention (wordsOf (registerKeys c) readings) (readOf (registerKeys c) readings) list (t ∷ ts))
+    (refusedOutcome 17 0 list)
+
+unfoldable pub isolateFileIn : ℕ → List ℕ → List ℕ → Parsed Chip → Outcome
+isolateFileIn attention readings list (refused n p) = refusedOutcome n p list
+isolateFileIn attention readings list (done c end) =
+    cond (knownAttention attention) (fileFromRoot c attention readings list (rootFor attention c)) (refusedOutcome 15 0 list)
+
+-- Isolation of a chip data file with a readings file.
+unfoldable pub isolateFile : List ℕ → ℕ → List ℕ → List ℕ → Outcome
+isolateFile file attention readings list = isolateFileIn attention readings list (verdict file)
+
+-- "Its list holds 4,096 records."
+unfoldable pub stationList : List ℕ
+stationList = replicate 32768 0
+
+-- What the station prints for a file, a type and a readings file.
+unfoldable pub report : List ℕ → ℕ → List ℕ → List ℕ
+report file attention readings = textOf (isolateFile file attention readings stationList)

@@ -1,0 +1,141 @@
+// The station's answer: isolation with a readings file, and its text.
+//
+// A function that puts text puts it to a lent list of bytes from a place on, leaves out what stands beyond the end of the list, and answers the place after it.
+use crate::file::isolate_file;
+use format::number;
+use isolation::Isolated;
+ghost use Prim.Native.Nat.{_+_, _*_, _≤_, _<_, _^_};
+ghost use mathlib.Core.Path.{_≡_};
+ghost use mathlib.Core.List.{_++_};
+ghost use lib.ListN.{length, drop, set};
+ghost use Rattle.report.specs.Text.{Put, decimal, named, bitLine, recordLine, recordLines, stepsLine, refusedLine};
+ghost use Rattle.report.specs.Report.{report};
+
+pub mod file;
+
+// A byte.
+fn put_byte(text: &mut [u8], at: usize, x: u8)
+    ensures { λ r. ⌜ now (text .exit) ≡ set (now (text .entry)) at x ⌝ }
+{
+    if at < text.len() {
+        text[at] = x;
+    }
+}
+
+// Some bytes.
+fn put(text: &mut [u8], at: usize, part: &[u8]) -> usize
+    requires { ⌜ at + length (now part) ≤ 0x100000000 ⌝ }
+    ensures { λ r. ⌜ Put (now (text .entry)) at (now (part .entry)) (now (text .exit)) r ⌝ }
+{
+    let mut i = 0;
+    while i < part.len() {
+        put_byte(text, at + i, part[i]);
+        i += 1;
+    }
+    at + part.len()
+}
+
+// A number in decimal digits.
+fn put_number(text: &mut [u8], at: usize, n: u64) -> usize
+    requires { ⌜ at ≤ 0xf0000000 ⌝ }
+    ensures { λ r. ⌜ Put (now (text .entry)) at (decimal n) (now (text .exit)) r ⌝ }
+{
+    let mut digits = [0u8; 20];
+    let k = io::decimal(n, &mut digits);
+    put(text, at, &digits[..k])
+}
+
+// A word and a number.
+fn put_named(text: &mut [u8], at: usize, word: &[u8], n: u64) -> usize
+    requires { ⌜ (at ≤ 0xe0000000) × (length (now word) ≤ 8) ⌝ }
+    ensures { λ r. ⌜ Put (now (text .entry)) at (named (now (word .entry)) n) (now (text .exit)) r ⌝ }
+    ensures { λ r. ⌜ r ≤ at + 28 ⌝ }
+{
+    let after = put(text, at, word);
+    put_number(text, after, n)
+}
+
+// The line of an active bit. Its node ID is given by its two bytes.
+fn put_line(
+    text: &mut [u8],
+    at: usize,
+    attention: u8,
+    high: u8,
+    low: u8,
+    number: u8,
+    bit: u8,
+) -> usize
+    requires { ⌜ at ≤ 0x10000000 ⌝ }
+    ensures { λ r. ⌜ Put (now (text .entry)) at (bitLine attention (high * 256 + low) number bit) (now (text .exit)) r ⌝ }
+{
+    let id = high as u64 * 256 + low as u64;
+    let a = put_named(text, at, b"type ", attention as u64);
+    let b = put_named(text, a, b" node ", id);
+    let c = put_named(text, b, b" inst ", number as u64);
+    let d = put_named(text, c, b" bit ", bit as u64);
+    put(text, d, b"\n")
+}
+
+// The line of the record at a place of the list.
+fn put_record(text: &mut [u8], at: usize, list: &[u8], from: usize) -> usize
+    requires { ⌜ (at ≤ 0x10000000) × (from + 8 ≤ length (now list)) ⌝ }
+    ensures { λ r. ⌜ Put (now (text .entry)) at (recordLine (drop from (now (list .entry)))) (now (text .exit)) r ⌝ }
+{
+    let attention = list[from];
+    let bit = list[from + 1];
+    let high = list[from + 2];
+    let low = list[from + 3];
+    let number = list[from + 4];
+    put_line(text, at, attention, high, low, number, bit)
+}
+
+// The lines of the first records of a list.
+fn put_records(text: &mut [u8], list: &[u8], records: usize) -> usize
+    requires { ⌜ (records ≤ 4096) × (records * 8 ≤ length (now list)) ⌝ }
+    ensures { λ r. ⌜ Put (now (text .entry)) 0 (recordLines records (now (list .entry))) (now (text .exit)) r ⌝ }
+{
+    let mut i = 0;
+    let mut at = 0;
+    while i < records {
+        at = put_record(text, at, list, i * 8);
+        i += 1;
+    }
+    at
+}
+
+// The text of a success.
+fn put_done(text: &mut [u8], list: &[u8], records: usize, steps: usize) -> usize
+    requires { ⌜ (records ≤ 4096) × (records * 8 ≤ length (now list)) ⌝ }
+    ensures { λ r. ⌜ Put (now (text .entry)) 0 (recordLines records (now (list .entry)) ++ stepsLine steps) (now (text .exit)) r ⌝ }
+    ensures { λ r. ⌜ r ≤ 152000 ⌝ }
+{
+    let at = put_records(text, list, records);
+    let end = put_named(text, at, b"steps ", steps as u64);
+    put(text, end, b"\n")
+}
+
+// The text of a refusal.
+fn put_refused(text: &mut [u8], number: u8, place: usize) -> usize
+    ensures { λ r. ⌜ Put (now (text .entry)) 0 (refusedLine number place) (now (text .exit)) r ⌝ }
+    ensures { λ r. ⌜ r ≤ 152000 ⌝ }
+{
+    let a = put_named(text, 0, b"refused ", number as u64);
+    let b = put_named(text, a, b" place ", place as u64);
+    put(text, b, b"\n")
+}
+
+// The text that the station prints for a chip data file, an attention type and a readings file, at the front of a lent text; and how many bytes it has, which are at most 152,000. A text that is too short for it holds its first part.
+pub fn report(file: &[u8], attention: u8, readings: &[u8], text: &mut [u8]) -> usize
+    ensures { λ r. ⌜ Put (now (text .entry)) 0 (report (now (file .entry)) attention (now (readings .entry))) (now (text .exit)) r ⌝ }
+    ensures { λ r. ⌜ r ≤ 152000 ⌝ }
+{
+    let mut list = [0u8; 32768];
+    let a = isolate_file(file, attention, readings, &mut list);
+    match a {
+        Isolated::Done(i) => put_done(text, &list, i.records, i.steps),
+        Isolated::Refused(r) => {
+            let kind = r.kind;
+            put_refused(text, number(kind), r.place)
+        }
+    }
+}
