@@ -1,0 +1,27 @@
+-- The measure is how many are left. The buffer keeps its length.
+use Prim.Native.Nat.{_-_}
+use mathlib.Core.Path.{_≡_}
+use lib.ListN.{length}
+use borrow.Author.Needs.{needs}
+use Rattle.samples.proofs.build.put_nots.Statement.{statement}
+use Rattle.samples.proofs.build.put_nots.Tie as tie
+
+abbrev Inv-loop : tie.InvT-loop
+Inv-loop file₀ at nots place₀ i₀ file place i = length file ≡ length file₀
+
+abbrev μ-loop : tie.MeasureT-loop
+μ-loop file₀ at nots place₀ i₀ file place i = nots - i
+
+pub put-nots-spec : {M : Type 1} → statement M
+put-nots-spec =
+    tie.close
+    (tie.spec
+    Inv-loop
+    μ-loop
+    (λ c. search needs)
+    (λ c κs. search needs)
+    (λ c. search needs)
+    (λ c. search needs)
+    (λ c. search needs)
+    (λ c. search needs)
+    (λ c. search needs))

@@ -1,0 +1,209 @@
+// Runs the bench samples that are not in the proved table, and prints what came out of each.
+//
+// What each sample has to give is worked out from the rules and the layout in the comment above its function. Each function puts its file together in a lent buffer, from the bytes of B1 as far as they serve.
+use crate::build::part;
+use crate::build::put;
+use crate::build::put_all;
+use crate::build::put_b1;
+use crate::build::put_child;
+use crate::build::put_node;
+use crate::build::put_nots;
+use crate::build::put_parent;
+use crate::build::put_register;
+use crate::build::put_registers;
+use crate::print::print_check;
+use crate::print::print_isolation;
+
+mod build;
+mod print;
+
+// Bit 0 alone, the leftmost.
+const BIT_0: u64 = 0x8000000000000000;
+
+// Type 6: 15, whose place is always 0. The file is B1 as it stands.
+fn type_6(file: &mut [u8]) {
+    let n = put_b1(file, 0, 0, 60);
+    print_isolation(b"type 6", part(file, 0, n), 6, &[BIT_0], &[1]);
+}
+
+// First 59 bytes: the last field of B1, the root's instance at 59, is not there, so 2 at 59.
+fn first_59_bytes(file: &mut [u8]) {
+    let n = put_b1(file, 0, 0, 59);
+    print_isolation(b"first 59 bytes", part(file, 0, n), 3, &[BIT_0], &[1]);
+}
+
+// "CHIP", which is 43 48 49 50, where "REGS" has to stand, at 13: 3 at 13.
+fn chip_at_13(file: &mut [u8]) {
+    let n = put_b1(file, 0, 0, 60);
+    put_all(file, 13, &[0x43, 0x48, 0x49, 0x50]);
+    print_isolation(b"CHIP at 13", part(file, 0, n), 3, &[BIT_0], &[1]);
+}
+
+// Version 2, in the byte at 12: 4 at 12.
+fn version_2(file: &mut [u8]) {
+    let n = put_b1(file, 0, 0, 60);
+    put(file, 12, 2);
+    print_isolation(b"version 2", part(file, 0, n), 3, &[BIT_0], &[1]);
+}
+
+// Flags 01, in the byte at 24: a reserved bit is set, so 6 at 24.
+fn flags_01(file: &mut [u8]) {
+    let n = put_b1(file, 0, 0, 60);
+    put(file, 24, 1);
+    print_isolation(b"flags 01", part(file, 0, n), 3, &[BIT_0], &[1]);
+}
+
+// Root instance 1, in the byte at 59: node 1 has no instance 1. The place is the root's first byte, so 12 at 56.
+fn root_instance_1(file: &mut [u8]) {
+    let n = put_b1(file, 0, 0, 60);
+    put(file, 59, 1);
+    print_isolation(b"root instance 1", part(file, 0, n), 3, &[BIT_0], &[1]);
+}
+
+// (FFFF << 8) >> 8 is FFFF: a right shift (14) by 8 of a left shift (13) by 8 of the constant FFFF (02) takes the place of B1's reading, which stands from 46 to 50. A word has 64 bits, so none of the constant's 16 is lost. They are the rightmost: bits 48 to 63. The rule names no register, so the reading means nothing.
+fn shifts(file: &mut [u8]) {
+    let rule = put_b1(file, 0, 0, 46);
+    let root = put_all(
+        file,
+        rule,
+        &[0x14, 8, 0x13, 8, 2, 0, 0, 0, 0, 0, 0, 0xFF, 0xFF],
+    );
+    let n = put_b1(file, root, 51, 60);
+    print_isolation(b"(FFFF << 8) >> 8", part(file, 0, n), 3, &[0], &[1]);
+}
+
+// B1 with so many NOTs in front of its reading, which begins at 46.
+fn put_levels(file: &mut [u8], nots: usize) -> usize {
+    let rule = put_b1(file, 0, 0, 46);
+    let reading = put_nots(file, rule, nots);
+    put_b1(file, reading, 46, 60)
+}
+
+// Level 16: the outermost NOT has level 1, so after 15 of them the reading has level 16, and the file is accepted. The number of NOTs is odd: where the reading has every bit but bit 0, the rule has bit 0 alone.
+fn level_16(file: &mut [u8]) {
+    let n = put_levels(file, 15);
+    print_check(b"level 16", part(file, 0, n));
+    print_isolation(
+        b"level 16",
+        part(file, 0, n),
+        3,
+        &[0x7FFFFFFFFFFFFFFF],
+        &[1],
+    );
+}
+
+// Level 17: after 16 NOTs, from 46 to 61, the reading has level 17. The place is its type byte, at 62: 9 at 62.
+fn level_17(file: &mut [u8]) {
+    let n = put_levels(file, 16);
+    print_isolation(b"level 17", part(file, 0, n), 3, &[BIT_0], &[1]);
+}
+
+// B1 up to its register count, which stands at 17; registers 1 to 8, from 20 on, with instances 0 to 127, which are 1,024 register instances; then what is asked for; then one node, whose rule for type 3 is the reading of register 8, instance 127; and B1's root.
+fn put_many_registers(file: &mut [u8], count: u8, more: &[u8]) -> usize {
+    let counted = put_b1(file, 0, 0, 17);
+    let first = put_all(file, counted, &[0, 0, count]);
+    let ninth = put_registers(file, first, 8);
+    let nodes = put_all(file, ninth, more);
+    let rule = put_b1(file, nodes, 31, 46);
+    let root = put_all(file, rule, &[1, 0, 0, 8, 127]);
+    put_b1(file, root, 51, 60)
+}
+
+// 1,024 register instances: accepted. Bit 5 of the last reading is set, and no other bit of any, so the rule has bit 5 alone.
+fn registers_1024(file: &mut [u8]) {
+    let n = put_many_registers(file, 8, &[]);
+    let mut words = [0u64; 1024];
+    words[1023] = 0x0400000000000000;
+    print_check(b"1024 register instances", part(file, 0, n));
+    print_isolation(
+        b"1024 register instances",
+        part(file, 0, n),
+        3,
+        &words,
+        &[1; 1024],
+    );
+}
+
+// 1,025 register instances: the first instance of register 9 is number 1,025. The eight registers before it take 646 bytes each from 20 on, so register 9 begins at 20 + 8 * 646 = 5188, and its instance's number byte stands 6 bytes after that: 8 at 5194.
+fn registers_1025(file: &mut [u8]) {
+    let n = put_many_registers(file, 9, &[0, 0, 9, 1, 0x80, 1, 0, 0, 0, 9, 0]);
+    print_isolation(
+        b"1025 register instances",
+        part(file, 0, n),
+        3,
+        &[0; 1025],
+        &[1; 1025],
+    );
+}
+
+// B1 up to its node count, which stands at 35; nodes 1 and 2, from 37 on, with instances 0 to 127, which are 256 node instances; then what is asked for; and a root for type 3 at the last of the 256, node 2, instance 127.
+fn put_many_nodes(file: &mut [u8], count: u8, more: &[u8]) -> usize {
+    let counted = put_b1(file, 0, 0, 35);
+    let first = put_all(file, counted, &[0, count]);
+    let second = put_node(file, first, 1, 128);
+    let third = put_node(file, second, 2, 128);
+    let roots = put_all(file, third, more);
+    let root = put_b1(file, roots, 51, 56);
+    put_all(file, root, &[3, 0, 2, 127])
+}
+
+// 256 node instances: accepted. The root's instance is the last of them, and its rule has bit 0.
+fn nodes_256(file: &mut [u8]) {
+    let n = put_many_nodes(file, 2, &[]);
+    print_check(b"256 node instances", part(file, 0, n));
+    print_isolation(b"256 node instances", part(file, 0, n), 3, &[BIT_0], &[1]);
+}
+
+// 257 node instances: the instance of node 3 is number 257. The two nodes before it take 4 + 128 * 10 = 1284 bytes each from 37 on, so node 3 begins at 37 + 2 * 1284 = 2605, and its instance's number byte stands 4 bytes after that: 8 at 2609.
+fn nodes_257(file: &mut [u8]) {
+    let n = put_many_nodes(file, 3, &[0, 3, 1, 1, 0, 0, 1, 0, 3, 1, 0, 0, 1, 0]);
+    print_isolation(b"257 node instances", part(file, 0, n), 3, &[BIT_0], &[1]);
+}
+
+// The nodes of the diamond. The rule of node n is the reading of register 1, instance n - 1. Node 1 has node 2 at bit 0 and node 3 at bit 1; nodes 2 and 3 have node 4 at bit 0; node 4 has no child.
+fn put_diamond_nodes(file: &mut [u8], at: usize) -> usize {
+    let to_left = put_parent(file, at, 1, 0, 2);
+    let to_right = put_child(file, to_left, 0, 2);
+    let left = put_child(file, to_right, 1, 3);
+    let from_left = put_parent(file, left, 2, 1, 1);
+    let right = put_child(file, from_left, 0, 4);
+    let from_right = put_parent(file, right, 3, 2, 1);
+    let bottom = put_child(file, from_right, 0, 4);
+    put_parent(file, bottom, 4, 3, 0)
+}
+
+// B1 up to its registers, which begin at 20; register 1 with instances 0 to 3; the four nodes; and B1's root, which is node 1, instance 0.
+fn put_diamond(file: &mut [u8]) -> usize {
+    let registers = put_b1(file, 0, 0, 20);
+    let nodes = put_register(file, registers, 1, 4);
+    let counted = put_b1(file, nodes, 31, 35);
+    let first = put_all(file, counted, &[0, 4]);
+    let roots = put_diamond_nodes(file, first);
+    put_b1(file, roots, 51, 60)
+}
+
+// The diamond: of node 1 bits 0 and 1 are active, of nodes 2 and 3 bit 0, of node 4 bit 5. All but the last have a child. So node 4's bit 5 is listed, once, though two chains lead to it; and each of the four instances is reached, so there are 4 steps.
+fn diamond(file: &mut [u8]) {
+    let n = put_diamond(file);
+    let words = [0xC000000000000000, BIT_0, BIT_0, 0x0400000000000000];
+    print_isolation(b"diamond", part(file, 0, n), 3, &words, &[1, 1, 1, 1]);
+}
+
+fn main() {
+    let mut space = [0u8; 8192];
+    let file: &mut [u8] = &mut space;
+    type_6(file);
+    first_59_bytes(file);
+    chip_at_13(file);
+    version_2(file);
+    flags_01(file);
+    root_instance_1(file);
+    shifts(file);
+    level_16(file);
+    level_17(file);
+    registers_1024(file);
+    registers_1025(file);
+    nodes_256(file);
+    nodes_257(file);
+    diamond(file);
+}

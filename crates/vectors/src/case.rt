@@ -1,0 +1,312 @@
+// One case: its form, the call that it asks for, and whether the answer is the expected one.
+use crate::lines::case_line;
+use crate::parts::byte;
+use crate::parts::eight;
+use crate::parts::four;
+use crate::parts::holds;
+use crate::parts::part;
+use crate::tally::ADDRESSES;
+use crate::tally::CHECKS;
+use crate::tally::DIFFERENCES;
+use crate::tally::ISOLATIONS;
+use crate::tally::count;
+use check::same;
+use format::Address;
+use format::Checked;
+use format::Refusal;
+use format::number;
+use isolation::Isolated;
+use isolation::isolate;
+use reader::address::address;
+use reader::address::address_part;
+use reader::check;
+ghost use Prim.Native.Nat.{_<_};
+
+// The start of a file of vectors, and what each case has before its words.
+const START: usize = 16;
+
+const HEAD: usize = 56;
+
+// The most words and read bytes of a case, and the most bytes of its list.
+const MOST_WORDS: usize = 1_100;
+
+const MOST_LIST: usize = 33_000;
+
+// The kinds of case.
+const CHECK: u8 = 1;
+
+const ADDRESS: u8 = 2;
+
+const ISOLATION: u8 = 3;
+
+// A refusal as a case has it: its number and its place, and six zeros.
+fn refused(r: Refusal) -> [u64; 8] {
+    let kind = r.kind;
+    [number(kind) as u64, r.place as u64, 0, 0, 0, 0, 0, 0]
+}
+
+// The checker's answer as a case has it.
+fn checked(file: &[u8]) -> [u64; 8] {
+    let c = check(file);
+    match c {
+        Checked::Accepted(s) => [
+            0,
+            0,
+            s.model,
+            s.registers as u64,
+            s.register_instances as u64,
+            s.nodes as u64,
+            s.node_instances as u64,
+            s.roots as u64,
+        ],
+        Checked::Refused(r) => refused(r),
+    }
+}
+
+// The address query's answer as a case has it.
+fn queried(file: &[u8], id: u64, instance: u8) -> [u64; 8] {
+    let a = address(file, id, instance);
+    match a {
+        Address::At(offset, size) => [0, 0, offset as u64, size as u64, 0, 0, 0, 0],
+        Address::Refused(r) => refused(r),
+    }
+}
+
+// The answer of isolation as a case has it.
+fn isolated(file: &[u8], attention: u8, words: &[u64], read: &[u8], list: &mut [u8]) -> [u64; 8] {
+    let a = isolate(file, attention, words, read, list);
+    match a {
+        Isolated::Done(i) => [0, 0, i.records as u64, i.steps as u64, 0, 0, 0, 0],
+        Isolated::Refused(r) => refused(r),
+    }
+}
+
+// Whether the eight values of an answer are those of a case.
+fn agrees(head: &[u8], got: [u64; 8]) -> bool {
+    let mut i = 0;
+    while i < 8 {
+        if four(head, 24 + 4 * i) as u64 != got[i] {
+            return false;
+        }
+        i += 1;
+    }
+    true
+}
+
+// Whether every byte is this one.
+fn full_of(s: &[u8], b: u8) -> bool {
+    let mut i = 0;
+    while i < s.len() {
+        if s[i] != b {
+            return false;
+        }
+        i += 1;
+    }
+    true
+}
+
+// Makes every byte this one.
+fn fill(s: &mut [u8], b: u8) {
+    let mut i = 0;
+    while i < s.len() {
+        s[i] = b;
+        i += 1;
+    }
+}
+
+// The words of a case, 8 bytes each, and zeros after them.
+fn fill_words(bytes: &[u8], words: &mut [u64]) {
+    let mut i = 0;
+    let mut at = 0;
+    while i < words.len() {
+        words[i] = eight(bytes, at);
+        i += 1;
+        at = std::num::wrapping_add_usize(at, 8);
+    }
+}
+
+// So many words from the first on.
+fn first_words(words: &[u64], n: usize) -> &[u64] {
+    if words.len() < n {
+        return &words[0..0];
+    }
+    &words[0..n]
+}
+
+// Whether a list begins with some records, and every byte after these is as it was lent.
+fn list_agrees(list: &[u8], records: &[u8], lent: u8) -> bool {
+    let n = records.len();
+    if list.len() < n {
+        return false;
+    }
+    if !same(part(list, 0, n), records) {
+        return false;
+    }
+    full_of(part(list, n, list.len() - n), lent)
+}
+
+// Whether the checker answers as a case expects.
+fn check_met(head: &[u8], file: &[u8], tally: &mut [u64]) -> bool {
+    let got = checked(file);
+    count(tally, CHECKS, got[0]);
+    agrees(head, got)
+}
+
+// Whether the address query answers as a case expects, and its companion hands back the bytes that the case names.
+fn address_met(head: &[u8], file: &[u8], id: u64, tally: &mut [u64]) -> bool {
+    let instance = byte(head, 1);
+    let got = queried(file, id, instance);
+    count(tally, ADDRESSES, got[0]);
+    if !agrees(head, got) {
+        return false;
+    }
+    same(
+        address_part(file, id, instance),
+        part(file, four(head, 32), four(head, 36)),
+    )
+}
+
+// Whether isolation answers as a case expects, and leaves the list as the case expects. `list` may be longer than the list that is lent; no byte beyond that may change either.
+fn list_met(
+    head: &[u8],
+    file: &[u8],
+    words: &[u64],
+    read: &[u8],
+    records: &[u8],
+    list: &mut [u8],
+    tally: &mut [u64],
+) -> bool {
+    let lent = byte(head, 2);
+    let n = four(head, 20);
+    fill(list, lent);
+    if list.len() < n {
+        return false;
+    }
+    let got = isolated(file, byte(head, 1), words, read, &mut list[0..n]);
+    count(tally, ISOLATIONS, got[0]);
+    if !agrees(head, got) {
+        return false;
+    }
+    list_agrees(list, records, lent)
+}
+
+// How many records a case expects.
+fn records(head: &[u8]) -> usize
+    ensures { λ r. ⌜ r < 4294967296 ⌝ }
+{
+    if byte(head, 0) == ISOLATION {
+        four(head, 32)
+    } else {
+        0
+    }
+}
+
+// How many bytes a case has after its head: words, read bytes and records.
+fn body_size(head: &[u8]) -> usize {
+    8 * four(head, 12) + four(head, 16) + 8 * records(head)
+}
+
+// Whether isolation does with the words, the read bytes and the list of a case what the case expects.
+fn isolation_met(head: &[u8], body: &[u8], file: &[u8], tally: &mut [u64]) -> bool {
+    let w = four(head, 12);
+    let r = four(head, 16);
+    let mut words = [0u64; MOST_WORDS];
+    let mut list = [0u8; MOST_LIST];
+    fill_words(part(body, 0, 8 * w), &mut words);
+    list_met(
+        head,
+        file,
+        first_words(&words, w),
+        part(body, 8 * w, r),
+        part(body, 8 * w + r, 8 * records(head)),
+        &mut list,
+        tally,
+    )
+}
+
+// Whether a case's call answers as it expects.
+fn met(head: &[u8], body: &[u8], file: &[u8], tally: &mut [u64]) -> bool {
+    let kind = byte(head, 0);
+    if kind == CHECK {
+        return check_met(head, file, tally);
+    }
+    if kind == ADDRESS {
+        return address_met(head, file, eight(body, 0), tally);
+    }
+    isolation_met(head, body, file, tally)
+}
+
+// Whether a head lends nothing: no read bytes and no list.
+fn lends_nothing(head: &[u8]) -> bool {
+    byte(head, 2) == 0 && four(head, 16) == 0 && four(head, 20) == 0
+}
+
+// Whether a head lends no more than an isolation case may, and a list with room for its records.
+fn lends_little(head: &[u8]) -> bool {
+    four(head, 12) <= MOST_WORDS
+        && four(head, 16) <= MOST_WORDS
+        && four(head, 20) <= MOST_LIST
+        && four(head, 32) <= four(head, 20) / 8
+}
+
+// Whether a head has one of the three kinds, and the fields that its kind has not are 0.
+fn formed(head: &[u8]) -> bool {
+    if byte(head, 3) != 0 {
+        return false;
+    }
+    let kind = byte(head, 0);
+    if kind == CHECK {
+        return byte(head, 1) == 0 && four(head, 12) == 0 && lends_nothing(head);
+    }
+    if kind == ADDRESS {
+        return four(head, 12) == 1 && lends_nothing(head);
+    }
+    kind == ISOLATION && lends_little(head)
+}
+
+// Compares a case, and names it where it differs.
+fn compare(head: &[u8], body: &[u8], file: &[u8], number: usize, tally: &mut [u64]) {
+    if met(head, body, file, tally) {
+        return;
+    }
+    case_line(number, b" differs");
+    count(tally, DIFFERENCES, 0);
+}
+
+// Says why some bytes are no case.
+fn no_case(number: usize, why: &[u8]) -> usize {
+    case_line(number, why);
+    0
+}
+
+// The case at a place: it is compared, and the place after it is answered; 0 where no case stands there. Its chip data file is a part of `files`, which is the file of vectors up to the first case.
+pub fn case_met(data: &[u8], files: &[u8], at: usize, number: usize, tally: &mut [u64]) -> usize {
+    if data.len() < at {
+        return no_case(number, b" is malformed: not wholly there");
+    }
+    if data.len() - at < HEAD {
+        return no_case(number, b" is malformed: not wholly there");
+    }
+    let head = part(data, at, HEAD);
+    if !formed(head) {
+        return no_case(number, b" is malformed: a field has no such value");
+    }
+    let place = four(head, 4);
+    let length = four(head, 8);
+    if place < START || !holds(files, place, length) {
+        return no_case(number, b" is malformed: its file is not among the files");
+    }
+    let body = at + HEAD;
+    let size = body_size(head);
+    if data.len() - body < size {
+        return no_case(number, b" is malformed: not wholly there");
+    }
+    compare(
+        head,
+        part(data, body, size),
+        part(files, place, length),
+        number,
+        tally,
+    );
+    body + size
+}
