@@ -1,4 +1,4 @@
-// The calls of the library for C and Rust. Each takes any input. An answer goes to a lent list of numbers, in the order of the refusal table's values; a list that is too short for it keeps what it has.
+// The calls of the library for C and Rust. Each takes any input. An answer of numbers goes to a lent list, in the order of the refusal table's values; a list that is too short for it keeps what it has.
 use format::Address;
 use format::Checked;
 use format::number;
@@ -6,10 +6,13 @@ use isolation::Isolated;
 use isolation::isolate;
 use reader::address::address;
 use reader::check;
+use report::report;
 ghost use mathlib.Core.List.{[], _∷_};
 ghost use mathlib.Core.Path.{_≡_};
 ghost use Rattle.format.specs.Verdict.{check, address};
 ghost use Rattle.isolation.specs.Outcome.{isolate};
+ghost use Rattle.report.specs.Text.{Put};
+ghost use Rattle.report.specs.Report.{report};
 ghost use Rattle.abi.specs.Values.{answered, checkList, addressList, isolateList};
 
 // Four numbers at the front of a list that has room for them.
@@ -109,4 +112,17 @@ pub extern "C" fn lutemarble_isolate(
             put_four(out, number(kind) as u64, refusal.place as u64, 0, 0);
         }
     }
+}
+
+// The station's text for a file, an attention type and a readings file, at the front of a lent text; and how many bytes it has. A text that is too short holds its first part; one of 152,000 bytes has room for every answer.
+#[no_mangle]
+pub extern "C" fn lutemarble_report(
+    file: &[u8],
+    attention: u8,
+    readings: &[u8],
+    text: &mut [u8],
+) -> usize
+    ensures { λ r. ⌜ Put (now (text .entry)) 0 (report (now (file .entry)) attention (now (readings .entry))) (now (text .exit)) r ⌝ }
+{
+    report(file, attention, readings, text)
 }
