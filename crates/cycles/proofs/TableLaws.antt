@@ -12,11 +12,11 @@ use lib.Seq.{length-take-le, getD-take}
 use borrow.Author.Tests.{lt-ltb, ltb-true, eqb-true, ne-eqb}
 use Rattle.numbers.specs.Bits.{bitOf, wordOf}
 use Rattle.numbers.proofs.BitsLaws.{bit-word}
-use Rattle.numbers.proofs.Bools.{clash, and-left, and-right, and-both}
+use Rattle.numbers.proofs.Bools.{clash, and-left, and-right, and-both, same-truth}
 use Rattle.graph.specs.Below.{any}
 use Rattle.graph.specs.Paths.{Path, Inside, reached, onCycle}
 use Rattle.graph.specs.Chains.{names, linked, reachedFrom}
-use Rattle.graph.proofs.BelowLaws.{any-in, any-out}
+use Rattle.graph.proofs.BelowLaws.{any-in, any-out, any-same}
 use Rattle.graph.proofs.PathsLaws.{reached-law, cycle-law}
 use Rattle.walk.specs.TableGraph.{sizeOf, childAt, tableGraph}
 use Rattle.walk.specs.Fold.{orElse}
@@ -24,7 +24,7 @@ use Rattle.walk.specs.Marks.{finished}
 use Rattle.walk.proofs.Tables.{child-in}
 use Rattle.walk.proofs.Step.{getD-tabulate}
 use Rattle.cycles.specs.Cycle.{lookedAt, tableEdge, inCycle, firstBelow, firstCycle, First, From}
-use Rattle.cycles.proofs.TestsLaws.{same-test, any-same, any-fails}
+use Rattle.cycles.proofs.TestsLaws.{any-fails}
 use Rattle.cycles.proofs.FirstLaws.{first-law}
 use Rattle.cycles.proofs.CycleLaws.{cycle-closed}
 
@@ -132,7 +132,7 @@ module _ (n : ℕ) (few : n ≤ 256) (ch act : List ℕ) (sized : length act ≡
     -- A done node instance with the child i is what makes a cycle.
     pub cycle-test : any n (λ j. eqb (getD m j 0) 2 && tableEdge n ch j i) ≡ inCycle n ch i
     unfolding inCycle
-    cycle-test = same-test out back
+    cycle-test = same-truth _ _ out back
       where
         law : (onCycle n (tableEdge n ch) i ≡ true) ↔ ((j : ℕ) × From (tableEdge n ch) i j × (tableEdge n ch j i ≡ true))
         law = cycle-closed (tableEdge n ch) n (edge-inside n ch) i

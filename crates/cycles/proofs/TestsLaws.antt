@@ -1,18 +1,12 @@
 -- Further laws of tests of the numbers below n.
 use mathlib.Core.Path.{_≡_, refl, sym, ap, _∙_}
 use mathlib.Core.Bool.{Bool, true, false, _&&_}
-use mathlib.Core.Logic.{⊎-elim}
 use Prim.Native.Nat.{ℕ, zero, suc, _+_, _<_}
 use native.Mathlib.Omega.{arith}
 use native.Mathlib.Numerals.{add-one}
 use lib.Dec.{eqb}
 use borrow.Author.Tests.{eq-eqb, ne-eqb}
-use Rattle.numbers.proofs.Bools.{either, clash}
 use Rattle.graph.specs.Below.{any}
-
--- Two tests are the same where each passes what the other does.
-pub same-test : {s t : Bool} → (s ≡ true → t ≡ true) → (t ≡ true → s ≡ true) → s ≡ t
-same-test {s} {t} f g = ⊎-elim (λ e. e ∙ sym (f e)) (λ e. ⊎-elim (λ d. clash (g d) e) (λ d. e ∙ sym d) (either t)) (either s)
 
 pub and-fails : (s : Bool) {t : Bool} → t ≡ false → s && t ≡ false
 and-fails true e = e
@@ -36,11 +30,6 @@ any-more n p e d = rw (add-one n, e) d
 
 pub any-end : {k n : ℕ} (p : ℕ → Bool) → any k p ≡ false → k ≡ n → false ≡ any n p
 any-end p e d = sym e ∙ ap (λ x. any x p) d
-
-pub any-same : (n : ℕ) (p q : ℕ → Bool) → ((i : ℕ) → i < n → p i ≡ q i) → any n p ≡ any n q
-unfolding any
-any-same zero p q f = refl
-any-same (suc n) p q f = rw (any-same n p q (λ i h. f i (omega arith)), f n (omega arith))
 
 pub any-fails : (n : ℕ) (p : ℕ → Bool) → ((i : ℕ) → i < n → p i ≡ false) → any n p ≡ false
 unfolding any

@@ -15,12 +15,6 @@ unfolding andThen
 then-then (done a n) f g = refl
 then-then (refused k m) f g = refl
 
-pub making-then : {A B C : Type 0} (h : A → B) (p : Parsed A) (g : B → ℕ → Parsed C)
-    → andThen (making h p) g ≡ andThen p (λ a n. g (h a) n)
-unfolding andThen making
-making-then h (done a n) g = refl
-making-then h (refused k m) g = refl
-
 pub making-after : {A B C : Type 0} (g : B → C) (p : Parsed A) (f : A → ℕ → Parsed B)
     → making g (andThen p f) ≡ andThen p (λ a n. making g (f a n))
 unfolding andThen making
@@ -31,11 +25,6 @@ pub making-making : {A B C : Type 0} (g : B → C) (h : A → B) (p : Parsed A) 
 unfolding making
 making-making g h (done a n) = refl
 making-making g h (refused k m) = refl
-
-pub making-as-then : {A B : Type 0} (h : A → B) (p : Parsed A) → making h p ≡ andThen p (λ a n. done (h a) n)
-unfolding andThen making
-making-as-then h (done a n) = refl
-making-as-then h (refused k m) = refl
 
 -- A value that was made was read.
 pub record Found {A B : Type 0} (g : A → B) (p : Parsed A) (b : B) (n : ℕ) : Type 0 where

@@ -18,7 +18,7 @@ use Rattle.format.specs.Encoding.{operandCount, encodeExpr, encodeExprs}
 use Rattle.format.specs.Placing.{PlacedExpr, PlacedExprs}
 use Rattle.format.specs.Rules.{depth, depths, Counted, CountedAll, ExprFits, ExprsFit}
 use Rattle.format.proofs.ParsedLaws.{never, then-out, then-in, making-out, making-in, requiring-out, requiring-in}
-use Rattle.format.proofs.Spelling.{Spell, spell-join, spell-split, field-out, field-in, Row, Reads, row-out, row-in}
+use Rattle.format.proofs.Spelling.{Spell, one-more, spell-join, spell-split, field-out, field-in, Row, Reads, row-out, row-in}
 
 -- What reading with l levels left needs of an expression at a place.
 pub record ExprFine (l at : ℕ) (e : Expr) : Type 0 where
@@ -119,9 +119,6 @@ module _ (s : List ℕ) (bytes : Bytes s) where
   start-out : (at : ℕ) {b a c : ℕ} → fieldAt s at 1 ≡ done b a → b ≡ c → Spell s at a (bytesOf 1 c)
   start-out at {a = a} e h = subst (λ x. Spell s at a (bytesOf 1 x)) h (field-out s bytes at 1 e .0)
 
-  next-place : (x : ℕ) {at a : ℕ} → Spell s at a (bytesOf 1 x) → a ≡ at + 1
-  next-place x {at} {a} h = omega (arith, h .ends, length-bytes 1 x)
-
   module _ (l : ℕ) (inner : Reads (Fine l) encodeExpr s (λ before. exprAt s l)) where
     operands-out : (at : ℕ) {es : List Expr} {m : ℕ} → operandsAt (exprAt s l) s at ≡ done es m
         → Spell s at m (bytesOf 1 (operandCount (gather es)) ++ encodeExprs (gather es))
@@ -137,7 +134,7 @@ module _ (s : List ℕ) (bytes : Bytes s) where
           spell-join s g (subst (λ bs. Spell s (t .1) m bs) (sym (encode-gather es)) (r .0)),
           (let h : 2 ≤ t .0 = leb-true 2 (t .0) (q .1) in omega (arith, n)),
           omega (arith, n, f .1),
-          subst (λ p. ExprsFine l p (gather es)) (next-place _ g) (fine-out l (t .1) [] es (r .2)),
+          subst (λ p. ExprsFine l p (gather es)) (one-more s _ g) (fine-out l (t .1) [] es (r .2)),
         )
 
     operands-in : (at : ℕ) (es : Exprs) {m : ℕ} → Spell s at m (bytesOf 1 (operandCount es) ++ encodeExprs es)
@@ -171,7 +168,7 @@ module _ (s : List ℕ) (bytes : Bytes s) where
           spell-join s (f .0) (r .0),
           leb-true 1 (t .0) (q .1),
           f .1,
-          subst (λ p. ExprFine l p (g .0)) (next-place _ (f .0)) (r .1),
+          subst (λ p. ExprFine l p (g .0)) (one-more s _ (f .0)) (r .1),
         )
 
     shifted-in : (shift : ℕ → Expr → Expr) (at k : ℕ) (x : Expr) {m : ℕ} → Spell s at m (bytesOf 1 k ++ encodeExpr x)
@@ -292,12 +289,12 @@ module _ (s : List ℕ) (bytes : Bytes s) where
         let g = making-out _ _ h in
         let r = operands-out a (g .1) in
         let z = start-out at f c in
-        subst (Found at m) (g .2) (spell-join s z (r .0), all-fine at _ (many (next-place _ z) (r .1) (r .2) (r .3)))
+        subst (Found at m) (g .2) (spell-join s z (r .0), all-fine at _ (many (one-more s _ z) (r .1) (r .2) (r .3)))
     body-out at a b isOr {e} {m} f c h =
         let g = making-out _ _ h in
         let r = operands-out a (g .1) in
         let z = start-out at f c in
-        subst (Found at m) (g .2) (spell-join s z (r .0), any-fine at _ (many (next-place _ z) (r .1) (r .2) (r .3)))
+        subst (Found at m) (g .2) (spell-join s z (r .0), any-fine at _ (many (one-more s _ z) (r .1) (r .2) (r .3)))
     body-out at a b isNot {e} {m} f c h =
         let g = making-out _ _ h in
         let r = inner .sound [] a (g .1) in
@@ -305,7 +302,7 @@ module _ (s : List ℕ) (bytes : Bytes s) where
         subst (Found at m) (g .2) (
           spell-join s z (r .0),
           record {
-            placed = subst (λ p. PlacedExpr p (g .0)) (next-place _ z) (r .1 .placed);
+            placed = subst (λ p. PlacedExpr p (g .0)) (one-more s _ z) (r .1 .placed);
             fits = r .1 .fits;
             counted = r .1 .counted;
             nested = omega (arith, r .1 .nested);
@@ -314,11 +311,11 @@ module _ (s : List ℕ) (bytes : Bytes s) where
     body-out at a b isLeft {e} {m} f c h =
         let r = shifted-out left a h in
         let z = start-out at f c in
-        subst (Found at m) (r .2) (spell-join s z (r .3), left-fine at _ _ (shifted (next-place _ z) (r .4) (r .5) (r .6)))
+        subst (Found at m) (r .2) (spell-join s z (r .3), left-fine at _ _ (shifted (one-more s _ z) (r .4) (r .5) (r .6)))
     body-out at a b isRight {e} {m} f c h =
         let r = shifted-out right a h in
         let z = start-out at f c in
-        subst (Found at m) (r .2) (spell-join s z (r .3), right-fine at _ _ (shifted (next-place _ z) (r .4) (r .5) (r .6)))
+        subst (Found at m) (r .2) (spell-join s z (r .3), right-fine at _ _ (shifted (one-more s _ z) (r .4) (r .5) (r .6)))
     body-out at a b isUnknown f c h = never h
 
     -- With the type byte at `at`, the rest is read from `at + 1`.

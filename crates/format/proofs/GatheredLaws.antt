@@ -1,5 +1,5 @@
 -- The laws of `gathered`.
-use mathlib.Core.List.{List, [], _∷_, _++_, map, append-assoc, append-nil}
+use mathlib.Core.List.{List, [], _∷_, _++_, map, map-append, append-assoc, append-nil}
 use mathlib.Core.Path.{_≡_, refl, sym, _∙_, ap}
 use Rattle.format.specs.Lookup.{gathered}
 use Rattle.format.specs.Rules.{Every}
@@ -17,6 +17,11 @@ pub gathered-map : {A B C : Type 0} (f : B → List C) (g : A → B) (xs : List 
 unfolding gathered
 gathered-map f g [] = refl
 gathered-map f g (x ∷ xs) = ap (λ ys. f (g x) ++ ys) (gathered-map f g xs)
+
+pub map-gathered : {A B C : Type 0} (g : B → C) (f : A → List B) (xs : List A) → map g (gathered f xs) ≡ gathered (λ x. map g (f x)) xs
+unfolding gathered
+map-gathered g f [] = refl
+map-gathered g f (x ∷ xs) = map-append g (f x) (gathered f xs) ∙ ap (λ ys. map g (f x) ++ ys) (map-gathered g f xs)
 
 pub gathered-gathered : {A B C : Type 0} (f : B → List C) (g : A → List B) (xs : List A) → gathered f (gathered g xs) ≡ gathered (λ x. gathered f (g x)) xs
 unfolding gathered

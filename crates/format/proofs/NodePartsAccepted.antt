@@ -17,10 +17,9 @@ use Rattle.format.specs.Encoding.{encodeExpr, encodeCapture, encodeRule,
 use Rattle.format.specs.Placing.{PlacedRow, PlacedExpr, PlacedCapture, PlacedRule, PlacedChild}
 use Rattle.format.specs.Rules.{Every, depth, Counted, ExprFits}
 use Rattle.format.proofs.ParsedLaws.{then-out, then-in, making-out, making-in, requiring-out, requiring-in}
-use Rattle.format.proofs.Spelling.{Spell, spell-join, spell-split, field-out, field-in, Row, Reads}
+use Rattle.format.proofs.Spelling.{Spell, spell-join, spell-split, field-out, field-in, Row, Reads, one-more}
 use Rattle.format.proofs.RowLaws.{Among, row-map, row-both, placed-out, placed-in, each-out, each-in}
 use Rattle.format.proofs.ExpressionAccepted.{expr-reads}
-use Rattle.format.proofs.RegistersAccepted.{one-more}
 
 -- What reading needs of a capture, a rule and a child alone, and among the others.
 pub record CaptureAlone (k : Capture) : Type 0 where
@@ -82,7 +81,7 @@ module _ (s : List ℕ) (bytes : Bytes s) where
             let g = making-out _ _ (t .3) in
             let n = field-out s bytes at 1 (p .0) in
             let r = expr-reads s bytes levels .sound [] (t .1) (g .1) in
-            let w = one-more s bytes _ (n .0) in
+            let w = one-more s _ (n .0) in
             subst (λ k. Spell s at m (encodeRule k) × RuleFine before at k) (g .2) (
               spell-join s (n .0) (r .0),
               record {
@@ -94,7 +93,7 @@ module _ (s : List ℕ) (bytes : Bytes s) where
         complete = λ before at {x} {m} a h.
             let b = spell-split s (bytesOf 1 (x .attention)) (encodeExpr (x .expression)) a in
             let k = h .alone in
-            let w = one-more s bytes _ (b .0) in
+            let w = one-more s _ (b .0) in
             then-in _ _
             (requiring-in _ _ _ _
             (requiring-in _ _ _ _ (field-in s bytes at 1 (lit< tt) (b .0) (attention-small _ (k .attention))) (k .attention)) (h .new))

@@ -147,13 +147,13 @@ pub record NodesFine (at : ℕ) (ns : List Node) : Type 0 where
   pub unique : Distinct (map (λ n. n .id) ns)
   pub room : nodeTotal ns ≤ nodeLimit
 
-total-none : nodeTotal [] ≡ 0
+pub nodes-none : nodeTotal [] ≡ 0
 unfolding nodeTotal
-total-none = refl
+nodes-none = refl
 
-total-more : (n : Node) (ns : List Node) → nodeTotal (n ∷ ns) ≡ length (n .instances) + nodeTotal ns
+pub nodes-more : (n : Node) (ns : List Node) → nodeTotal (n ∷ ns) ≡ length (n .instances) + nodeTotal ns
 unfolding nodeTotal
-total-more n ns = refl
+nodes-more n ns = refl
 
 module _ (s : List ℕ) (bytes : Bytes s) (at : ℕ) where
   pub nodes-out : {ns : List Node} {m : ℕ} → nodesAt s true at ≡ done ns m → Spell s at m (encodeNodes ns) × NodesFine at ns
@@ -163,9 +163,9 @@ module _ (s : List ℕ) (bytes : Bytes s) (at : ℕ) where
       let r : Row NodeFine encodeNode [] (at + 6) ns = subst (λ p. Row NodeFine encodeNode [] p ns) (omega arith) (t .3) in
       let a = among-out encodeNode PlacedNode NodeAlone (λ x. x .id) (at + 6) ns (row-map encodeNode _ _ (λ b a x h. h .0) [] (at + 6) ns r) in
       let l =
-      total-out encodeNode (λ x. length (x .instances)) nodeTotal total-none total-more nodeLimit [] (at + 6) ns (t .1)
+      total-out encodeNode (λ x. length (x .instances)) nodeTotal nodes-none nodes-more nodeLimit [] (at + 6) ns (t .1)
       (row-map encodeNode NodeFine _ (λ b a x h. h .1) [] (at + 6) ns r) in
-      (t .0, record { placed = a .0; count = t .2; some = t .1; each = a .1; unique = a .2; room = omega (arith, total-none, l) })
+      (t .0, record { placed = a .0; count = t .2; some = t .1; each = a .1; unique = a .2; room = omega (arith, nodes-none, l) })
 
   pub nodes-in : (ns : List Node) {m : ℕ} → Spell s at m (encodeNodes ns) → NodesFine at ns → nodesAt s true at ≡ done ns m
   unfolding nodesAt encodeNodes node
@@ -174,5 +174,5 @@ module _ (s : List ℕ) (bytes : Bytes s) (at : ℕ) where
       (subst (λ p. Row NodeFine encodeNode [] p ns) (omega arith)
       (row-both encodeNode _ _ [] (at + 6) ns
       (among-in encodeNode PlacedNode NodeAlone (λ x. x .id) (at + 6) ns (h .placed) (h .each) (h .unique))
-      (total-in encodeNode (λ x. length (x .instances)) nodeTotal total-none total-more nodeLimit [] (at + 6) ns
-      (let l : nodeTotal [] + nodeTotal ns ≤ nodeLimit = omega (arith, total-none, h .room) in l))))
+      (total-in encodeNode (λ x. length (x .instances)) nodeTotal nodes-none nodes-more nodeLimit [] (at + 6) ns
+      (let l : nodeTotal [] + nodeTotal ns ≤ nodeLimit = omega (arith, nodes-none, h .room) in l))))

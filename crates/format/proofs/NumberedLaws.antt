@@ -1,11 +1,13 @@
--- Every refusal of a file has a number of the table, 1 to 14.
-use Prim.Native.Nat.{ℕ, zero, suc, _≤_}
+-- Every kind of refusal has a number of the table, and every refusal of a file one from 1 to 14.
+use Prim.Native.Nat.{ℕ, zero, suc, _≤_, _<_}
 use mathlib.Core.Bool.{Bool, true, false, _&&_}
 use mathlib.Core.List.{List, [], _∷_}
 use mathlib.Core.Path.{_≡_, refl, sym}
-use lib.Dec.{leb}
+use lib.Dec.{leb, lit<}
 use borrow.Author.Tests.{leb-true}
 use Rattle.numbers.proofs.Bools.{and-left, and-right}
+use Rattle.format.specs.declared.Kind.the-variants.{FileTooLong, FieldCut, WrongKeyword, WrongVersion, ZeroCount, UnknownValue, Duplicate, TooManyInstances, BadExpression, BitTooHigh, BytesAfterEnd, NameAbsent, RegisterUnfit, ChildCycle, BadAttentionType, NoRoot, ReadingsUnfit, RegisterUnread, NoRoom}
+use Rattle.format.specs.declared.Kind.{Kind}
 use Rattle.format.specs.Parsed.{Parsed, done, refused, andThen, making, require, requiring, rowAt}
 use Rattle.format.specs.Fields.{fieldAt, keywordAt, countAt, typeAt, flagsAt, attentionAt}
 use Rattle.format.specs.Tree.{Expr, RegisterInstance, Register, Capture, Rule, Child, NodeInstance, Node, Root, Chip}
@@ -16,10 +18,33 @@ use Rattle.format.specs.FileLayout.{startAt, rootAt, rootsAt, fileAt}
 use Rattle.format.specs.Lookup.{NodeEntry, nodeEntries}
 use Rattle.format.specs.References.{Fault, unless, captureFaults, namedFaults, ruleFaults, childFaults, instanceFaults, rootFaults, referenceFaults}
 use Rattle.format.specs.Cycles.{cyclesFrom, cycleFaults}
+use Rattle.format.specs.Refusals.{numberOf}
 use Rattle.format.specs.Rules.{Every}
 use Rattle.format.specs.Verdict.{judged, verdict}
 use Rattle.format.proofs.ParsedLaws.{never}
 use Rattle.format.proofs.EveryLaws.{every-all, every-append-in, every-gathered-in}
+
+-- Every kind of refusal has a number of the table.
+pub kind-some : (k : Kind) → 0 < numberOf k
+kind-some FileTooLong = lit< tt
+kind-some FieldCut = lit< tt
+kind-some WrongKeyword = lit< tt
+kind-some WrongVersion = lit< tt
+kind-some ZeroCount = lit< tt
+kind-some UnknownValue = lit< tt
+kind-some Duplicate = lit< tt
+kind-some TooManyInstances = lit< tt
+kind-some BadExpression = lit< tt
+kind-some BitTooHigh = lit< tt
+kind-some BytesAfterEnd = lit< tt
+kind-some NameAbsent = lit< tt
+kind-some RegisterUnfit = lit< tt
+kind-some ChildCycle = lit< tt
+kind-some BadAttentionType = lit< tt
+kind-some NoRoot = lit< tt
+kind-some ReadingsUnfit = lit< tt
+kind-some RegisterUnread = lit< tt
+kind-some NoRoom = lit< tt
 
 abbrev InTable : ℕ → Type 0
 InTable n = leb 1 n && leb n 14 ≡ true

@@ -1,5 +1,5 @@
--- The places of an accepted file: reading moves forward within the file, and reading at a rule's place gives its expression again.
-use Prim.Native.Nat.{ℕ, _+_, _≤_}
+-- The places of an accepted file: reading at a rule's place gives its expression again.
+use Prim.Native.Nat.{ℕ, _+_}
 use mathlib.Core.List.{List, [], _∷_, _++_}
 use mathlib.Core.Path.{_≡_, refl, sym, _∙_, ap, subst}
 use native.Mathlib.Omega.{arith}
@@ -22,10 +22,6 @@ use Rattle.format.proofs.EveryLaws.{every-map, every-both, every-gather
 use Rattle.format.proofs.Spelling.{Spell, spell-split}
 use Rattle.format.proofs.ExpressionAccepted.{ExprFine, expr-reads}
 use Rattle.format.proofs.Acceptance.{acceptance}
-
--- What is read is spelled from its place to the next.
-pub forward : {s : List ℕ} {at m : ℕ} {bs : List ℕ} → Spell s at m bs → at ≤ m
-forward a = omega (arith, a .ends)
 
 -- An element stands somewhere in the file, and its places are those.
 pub record Stands {A : Type 0} (s : List ℕ) (place : ℕ → A → Type 0) (enc : A → List ℕ) (x : A) : Type 0 where

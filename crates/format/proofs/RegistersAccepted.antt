@@ -20,10 +20,10 @@ use Rattle.format.specs.Encoding.{encodeRegisterInstance, encodeRegister
 use Rattle.format.specs.Placing.{PlacedRow, PlacedRegisterInstance, PlacedRegister}
 use Rattle.format.specs.Rules.{Every, Distinct}
 use Rattle.format.proofs.ParsedLaws.{then-out, then-in, making-out, making-in, requiring-out, requiring-in}
-use Rattle.format.proofs.Spelling.{Spell, spell-join, spell-split, field-out, field-in, Row, Reads, row-out, row-in, section-out, section-in}
+use Rattle.format.proofs.Spelling.{Spell, one-more, spell-join, spell-split, field-out, field-in, Row, Reads, row-out, row-in, section-out, section-in}
 use Rattle.format.proofs.RowLaws.{Among, among-out, among-in, row-map, row-both, limit-out, limit-in, total-out, total-in}
 
-size-positive : (t : ℕ) → 0 < addressSize t
+pub size-positive : (t : ℕ) → 0 < addressSize t
 unfolding addressSize
 size-positive t = go (eqb t 1)
   where
@@ -42,9 +42,6 @@ InstanceFine total type before at i =
     × (ltb (total + length before) registerLimit ≡ true)
 
 module _ (s : List ℕ) (bytes : Bytes s) where
-  pub one-more : (x : ℕ) {at a : ℕ} → Spell s at a (bytesOf 1 x) → a ≡ at + 1
-  one-more x {at} {a} h = omega (arith, h .ends, length-bytes 1 x)
-
   instance-reads : (total type : ℕ) → Reads (InstanceFine total type) (encodeRegisterInstance type) s (registerInstanceAt s true total type)
   unfolding registerInstanceAt encodeRegisterInstance PlacedRegisterInstance
   instance-reads total type =
@@ -57,13 +54,13 @@ module _ (s : List ℕ) (bytes : Bytes s) where
             let n = field-out s bytes at 1 (r .0) in
             let a = field-out s bytes (t .1) (addressSize type) (g .1) in
             subst (λ i. Spell s at m (encodeRegisterInstance type i) × InstanceFine total type before at i) (g .2)
-            (spell-join s (n .0) (a .0), (record { placed = one-more _ (n .0); alone = record { number = n .1; address = a .1 }; new = q .1 }, r .1));
+            (spell-join s (n .0) (a .0), (record { placed = one-more s _ (n .0); alone = record { number = n .1; address = a .1 }; new = q .1 }, r .1));
         complete = λ before at {x} {m} a h.
             let b = spell-split s (bytesOf 1 (x .number)) (bytesOf (addressSize type) (x .address)) a in
             then-in _ _
             (requiring-in _ _ _ _ (requiring-in _ _ _ _ (field-in s bytes at 1 (lit< tt) (b .0) (h .0 .alone .number)) (h .1)) (h .0 .new))
             (making-in _ _ (field-in s bytes _ (addressSize type) (size-positive type) (b .1) (h .0 .alone .address))
-            (ap (λ p. record { number = x .number; place = p; address = x .address }) (one-more _ (b .0) ∙ sym (h .0 .placed))));
+            (ap (λ p. record { number = x .number; place = p; address = x .address }) (one-more s _ (b .0) ∙ sym (h .0 .placed))));
       }
 
 -- What reading needs of the instances of a register.
@@ -214,13 +211,13 @@ pub record RegistersFine (at : ℕ) (rs : List Register) : Type 0 where
   pub unique : Distinct (map (λ r. r .id) rs)
   pub room : registerTotal rs ≤ registerLimit
 
-total-none : registerTotal [] ≡ 0
+pub registers-none : registerTotal [] ≡ 0
 unfolding registerTotal
-total-none = refl
+registers-none = refl
 
-total-more : (r : Register) (rs : List Register) → registerTotal (r ∷ rs) ≡ length (r .instances) + registerTotal rs
+pub registers-more : (r : Register) (rs : List Register) → registerTotal (r ∷ rs) ≡ length (r .instances) + registerTotal rs
 unfolding registerTotal
-total-more r rs = refl
+registers-more r rs = refl
 
 module _ (s : List ℕ) (bytes : Bytes s) (at : ℕ) where
   pub registers-out : {rs : List Register} {m : ℕ} → registersAt s true at ≡ done rs m → Spell s at m (encodeRegisters rs) × RegistersFine at rs
@@ -230,9 +227,9 @@ module _ (s : List ℕ) (bytes : Bytes s) (at : ℕ) where
       let r : Row RegisterFine encodeRegister [] (at + 7) rs = subst (λ p. Row RegisterFine encodeRegister [] p rs) (omega arith) (t .3) in
       let a = among-out encodeRegister PlacedRegister RegisterAlone (λ x. x .id) (at + 7) rs (row-map encodeRegister _ _ (λ b a x h. h .0) [] (at + 7) rs r) in
       let l =
-      total-out encodeRegister (λ x. length (x .instances)) registerTotal total-none total-more registerLimit [] (at + 7) rs (t .1)
+      total-out encodeRegister (λ x. length (x .instances)) registerTotal registers-none registers-more registerLimit [] (at + 7) rs (t .1)
       (row-map encodeRegister RegisterFine _ (λ b a x h. h .1) [] (at + 7) rs r) in
-      (t .0, record { placed = a .0; count = t .2; some = t .1; each = a .1; unique = a .2; room = omega (arith, total-none, l) })
+      (t .0, record { placed = a .0; count = t .2; some = t .1; each = a .1; unique = a .2; room = omega (arith, registers-none, l) })
 
   pub registers-in : (rs : List Register) {m : ℕ} → Spell s at m (encodeRegisters rs) → RegistersFine at rs → registersAt s true at ≡ done rs m
   unfolding registersAt encodeRegisters regs
@@ -241,5 +238,5 @@ module _ (s : List ℕ) (bytes : Bytes s) (at : ℕ) where
       (subst (λ p. Row RegisterFine encodeRegister [] p rs) (omega arith)
       (row-both encodeRegister _ _ [] (at + 7) rs
       (among-in encodeRegister PlacedRegister RegisterAlone (λ x. x .id) (at + 7) rs (h .placed) (h .each) (h .unique))
-      (total-in encodeRegister (λ x. length (x .instances)) registerTotal total-none total-more registerLimit [] (at + 7) rs
-      (let l : registerTotal [] + registerTotal rs ≤ registerLimit = omega (arith, total-none, h .room) in l))))
+      (total-in encodeRegister (λ x. length (x .instances)) registerTotal registers-none registers-more registerLimit [] (at + 7) rs
+      (let l : registerTotal [] + registerTotal rs ≤ registerLimit = omega (arith, registers-none, h .room) in l))))

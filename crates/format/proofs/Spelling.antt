@@ -1,5 +1,5 @@
 -- Bytes that stand at a place of a file, and the readings that are done with exactly these bytes.
-use Prim.Native.Nat.{ℕ, zero, suc, _+_, _-_, _^_, _≤_, _<_}
+use Prim.Native.Nat.{ℕ, zero, suc, _+_, _^_, _≤_, _<_}
 use mathlib.Core.Bool.{true}
 use mathlib.Core.List.{List, [], _∷_, _++_}
 use mathlib.Core.Path.{_≡_, refl, sym, _∙_, ap, subst}
@@ -51,6 +51,9 @@ module _ (s : List ℕ) where
   pub spell-within : {at m : ℕ} (bs : List ℕ) → 0 < length bs → Spell s at m bs → m ≤ length s
   spell-within {at} {m} bs h a =
       omega (arith, ap length (a .here), length-take (length bs) (drop at s), length-drop at s, a .ends)
+
+  pub one-more : (x : ℕ) {at m : ℕ} → Spell s at m (bytesOf 1 x) → m ≡ at + 1
+  one-more x {at} {m} a = omega (arith, a .ends, length-bytes 1 x)
 
 -- A field of n bytes is done exactly when the n bytes of its number stand there.
 module _ (s : List ℕ) (bytes : Bytes s) where

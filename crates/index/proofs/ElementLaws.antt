@@ -1,36 +1,25 @@
 -- The rows of a whole register and of a whole node.
-use Prim.Native.Nat.{ℕ, _+_, _≤_, _<_}
+use Prim.Native.Nat.{ℕ, _+_, _<_}
 use mathlib.Core.Bool.{true}
-use mathlib.Core.List.{List, [], _∷_, _++_, map}
+use mathlib.Core.List.{List, [], _∷_, map, map-map}
 use mathlib.Core.Path.{_≡_, refl, sym, _∙_, ap, subst}
 use native.Mathlib.Omega.{arith}
 use lib.ListN.{length, length-map}
-use Rattle.format.specs.Lookup.{gathered, entriesOf, nodeEntriesOf}
-use Rattle.format.specs.Parsed.{Parsed, done, making, rowAt}
+use Rattle.format.specs.Lookup.{entriesOf, nodeEntriesOf}
+use Rattle.format.specs.Parsed.{Parsed, done, rowAt}
 use Rattle.format.specs.RegisterLayout.{RegisterHead, registerTotal, registerInstanceAt, registerHeadAt, registerAt}
 use Rattle.format.specs.NodeLayout.{NodeHead, nodeTotal, nodeInstanceAt, nodeHeadAt, nodeAt}
 use Rattle.format.specs.Tree.{RegisterInstance, Register, NodeInstance, Node}
 use Rattle.format.proofs.ParsedLaws.{then-out, making-out, making-in}
 use Rattle.fields.proofs.Parsing.{row-length}
 use Rattle.registers.specs.Registers.{registerElement}
-use Rattle.registers.proofs.RegisterLaws.{register-size, register-another}
+use Rattle.format.proofs.RegistersAccepted.{registers-more}
+use Rattle.registers.proofs.RegisterLaws.{register-size}
 use Rattle.nodes.specs.Nodes.{nodeElement}
-use Rattle.nodes.proofs.NodeLaws.{node-size, node-another}
+use Rattle.format.proofs.NodesAccepted.{nodes-more}
+use Rattle.nodes.proofs.NodeLaws.{node-size}
 use Rattle.index.specs.declared.Head.{Head}
-use Rattle.index.specs.Rows.{Row, Rows, filled, rowOf, registerRow, nodeRow, headOf, nodeHeadOf}
-
-pub map-map : {A B C : Type 0} (g : B → C) (f : A → B) (xs : List A) → map g (map f xs) ≡ map (λ x. g (f x)) xs
-map-map g f [] = refl
-map-map g f (x ∷ xs) = ap (λ r. g (f x) ∷ r) (map-map g f xs)
-
-pub map-append : {A B : Type 0} (f : A → B) (xs ys : List A) → map f (xs ++ ys) ≡ map f xs ++ map f ys
-map-append f [] ys = refl
-map-append f (x ∷ xs) ys = ap (λ r. f x ∷ r) (map-append f xs ys)
-
-pub map-gathered : {A B C : Type 0} (g : B → C) (f : A → List B) (xs : List A) → map g (gathered f xs) ≡ gathered (λ x. map g (f x)) xs
-unfolding gathered
-map-gathered g f [] = refl
-map-gathered g f (x ∷ xs) = map-append g (f x) (gathered f xs) ∙ ap (λ r. map g (f x) ++ r) (map-gathered g f xs)
+use Rattle.index.specs.Rows.{Rows, filled, rowOf, registerRow, nodeRow, headOf, nodeHeadOf}
 
 -- The instances of an element whose head was read.
 module _ {I : Type 0} (number place : I → ℕ) (q : ℕ → ℕ → List I → ℕ → Parsed I) where
@@ -60,7 +49,7 @@ module _ (s : List ℕ) (at : ℕ) (t : Rows) (k : ℕ) {h : Head} {u : Rows} {n
       let i : g .0 ≡ r .instances = ap (λ x. x .instances) (g .2) in
       let l : length (map registerRow (entriesOf r)) ≡ length (r .instances) = length-map (entriesOf r) registerRow ∙ length-map (r .instances) _ in
       let n : h .count ≡ length (r .instances) = y .2 ∙ ap length i in
-      (y .0, subst (λ x. u ≡ filled t k (map registerRow (entriesOf x))) (g .2) (y .1 ∙ ap (filled t k) (sym (map-map registerRow _ (g .0)))), omega arith, omega (arith, register-another r before))
+      (y .0, subst (λ x. u ≡ filled t k (map registerRow (entriesOf x))) (g .2) (y .1 ∙ ap (filled t k) (sym (map-map registerRow _ (g .0)))), omega arith, omega (arith, registers-more r before))
 
   -- One node.
   pub node-filled : ((ids : List ℕ) (g : NodeHead) (m : ℕ) → nodeHeadAt s true ids at ≡ done g m → h ≡ nodeHeadOf g m)
@@ -75,7 +64,7 @@ module _ (s : List ℕ) (at : ℕ) (t : Rows) (k : ℕ) {h : Head} {u : Rows} {n
       let i : g .0 ≡ r .instances = ap (λ x. x .instances) (g .2) in
       let l : length (map nodeRow (nodeEntriesOf r)) ≡ length (r .instances) = length-map (nodeEntriesOf r) nodeRow ∙ length-map (r .instances) _ in
       let n : h .count ≡ length (r .instances) = y .2 ∙ ap length i in
-      (y .0, subst (λ x. u ≡ filled t k (map nodeRow (nodeEntriesOf x))) (g .2) (y .1 ∙ ap (filled t k) (sym (map-map nodeRow _ (g .0)))), omega arith, omega (arith, node-another r before))
+      (y .0, subst (λ x. u ≡ filled t k (map nodeRow (nodeEntriesOf x))) (g .2) (y .1 ∙ ap (filled t k) (sym (map-map nodeRow _ (g .0)))), omega arith, omega (arith, nodes-more r before))
 
 -- A register or a node that was read had room.
 module _ (s : List ℕ) (at k : ℕ) where

@@ -3,7 +3,7 @@ use Prim.Native.Nat.{ℕ, zero, suc, _+_, _-_, _≤_, _<_}
 use mathlib.Core.List.{List, [], _∷_, _++_, map}
 use mathlib.Core.Path.{_≡_, refl, sym, _∙_, ap}
 use native.Mathlib.Omega.{arith}
-use lib.ListN.{length, set, length-set}
+use lib.ListN.{length, length-set}
 use Rattle.format.specs.Lookup.{gathered}
 use Rattle.format.specs.Parsed.{Parsed, done, rowAt}
 use Rattle.format.proofs.ParsedLaws.{then-out, making-out}
@@ -19,10 +19,6 @@ filled-append t k [] ys = ap (λ j. filled t j ys) (let e : k ≡ k + 0 = omega 
 filled-append t k (x ∷ xs) ys =
     filled-append (putRow t k x) (suc k) xs ys
     ∙ ap (λ j. filled (filled (putRow t k x) (suc k) xs) j ys) (let e : suc k + length xs ≡ k + suc (length xs) = omega arith in e)
-
-pub filled-one : (t : Rows) (k : ℕ) (r : Row) → putRow t k r ≡ filled t k (r ∷ [])
-unfolding filled
-filled-one t k r = refl
 
 -- Each column by itself.
 pub filled-columns : (t : Rows) (k : ℕ) (rs : List Row) → filled t k rs

@@ -2,15 +2,35 @@
 use Prim.Native.Nat.{ℕ}
 use mathlib.Core.Bool.{true}
 use mathlib.Core.List.{List, []}
-use mathlib.Core.Path.{_≡_, refl, sym, _∙_, ap}
+use mathlib.Core.Path.{_≡_, _∙_, ap}
 use Rattle.format.specs.Fields.{fieldAt, attentionAt}
 use Rattle.format.specs.ExpressionLayout.{exprAt}
 use Rattle.format.specs.Limits.{levels}
 use Rattle.format.specs.NodeLayout.{InstanceHead, captureAt, ruleAt, childAt, instanceHeadAt, nodeInstanceAt}
-use Rattle.format.specs.Parsed.{Parsed, done, rowAt}
+use Rattle.format.specs.Parsed.{done, rowAt}
 use Rattle.format.specs.Tree.{Capture, Rule, Child, NodeInstance}
 use Rattle.format.proofs.ParsedLaws.{then-out, making-out, requiring-out}
-use Rattle.index.proofs.Again.{node-instance-again}
+use Rattle.index.proofs.Again.{same-done, node-instance-again}
+
+-- A byte, an ID of two bytes and a number of one, as a child and a root have them.
+pub record Naming (s : List ℕ) (at first id number m : ℕ) : Type 0 where
+  pub id-at : ℕ
+  pub number-at : ℕ
+  pub first-is : fieldAt s at 1 ≡ done first id-at
+  pub id-is : fieldAt s id-at 2 ≡ done id number-at
+  pub number-is : fieldAt s number-at 1 ≡ done number m
+
+-- What the code reads of these, field after field.
+module _ {s : List ℕ} {at first id number m : ℕ} (f : Naming s at first id number m) {x a : ℕ} (o : done x a ≡ fieldAt s at 1) where
+  pub naming-id : (fieldAt s a 2 ≡ done id (f .number-at)) × (x ≡ first)
+  naming-id = let g = same-done o (f .first-is) in (rw (g .1) (f .id-is), g .0)
+
+  module _ {i b : ℕ} (p : done i b ≡ fieldAt s a 2) where
+    pub naming-number : (fieldAt s b 1 ≡ done number m) × (i ≡ id)
+    naming-number = let g = same-done p (naming-id .0) in (rw (g .1) (f .number-is), g .0)
+
+    pub naming-all : {y n : ℕ} → done y n ≡ fieldAt s b 1 → (x ≡ first) × (i ≡ id) × (y ≡ number) × (n ≡ m)
+    naming-all q = let g = same-done q (naming-number .0) in (naming-id .1, naming-number .1, g .0, g .1)
 
 module _ (s : List ℕ) (at : ℕ) where
   -- The fields of a capture, a rule and a child.
@@ -38,7 +58,7 @@ module _ (s : List ℕ) (at : ℕ) where
       (p .0 ∙ rw (i, l), rw (← l) (g .1 ∙ rw x))
 
   pub child-fields : (before : List Child) {k : Child} {m : ℕ} → childAt s true before at ≡ done k m
-      → (a b : ℕ) × (fieldAt s at 1 ≡ done (k .bit) a) × (fieldAt s a 2 ≡ done (k .id) b) × (fieldAt s b 1 ≡ done (k .number) m) × (at ≡ k .place)
+      → Naming s at (k .bit) (k .id) (k .number) m × (at ≡ k .place)
   unfolding childAt
   child-fields before {k} {m} e =
       let t = then-out _ _ e in
@@ -49,7 +69,7 @@ module _ (s : List ℕ) (at : ℕ) where
       let b : t .0 ≡ k .bit = ap (λ x. x .bit) (g .2) in
       let i : c .0 ≡ k .id = ap (λ x. x .id) (g .2) in
       let n : g .0 ≡ k .number = ap (λ x. x .number) (g .2) in
-      (t .1, c .1, p .0 ∙ rw b, c .2 ∙ rw i, g .1 ∙ rw n, ap (λ x. x .place) (g .2))
+      (record { id-at = t .1; number-at = c .1; first-is = p .0 ∙ rw b; id-is = c .2 ∙ rw i; number-is = g .1 ∙ rw n }, ap (λ x. x .place) (g .2))
 
   -- The parts of a node instance.
   pub record Parts (i : NodeInstance) (m : ℕ) : Type 0 where

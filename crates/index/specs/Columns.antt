@@ -1,16 +1,13 @@
--- The columns of a chip's tables, in file order.
+-- The columns of a chip's tables beside the names, in file order.
 use Prim.Native.Nat.{ℕ}
 use mathlib.Core.List.{List, map}
 use mathlib.Core.Path.{_≡_}
 use Rattle.format.specs.Lookup.{registerEntries, nodeEntries}
 use Rattle.format.specs.Tree.{Chip}
-use Rattle.tables.specs.Tables.{keyOf}
+use Rattle.tables.specs.Keys.{registerKeys, nodeKeys}
 use Rattle.index.specs.Rows.{kindOf, entryPlace, entryWanted}
 
--- The names and the kinds of the register instances.
-abbrev pub registerKeys : Chip → List ℕ
-registerKeys c = map (λ e. keyOf (e .id) (e .instance .number)) (registerEntries c)
-
+-- The kinds of the register instances.
 abbrev pub registerKinds : Chip → List ℕ
 registerKinds c = map (λ e. kindOf (e .type) (e .flags)) (registerEntries c)
 
@@ -18,10 +15,7 @@ registerKinds c = map (λ e. kindOf (e .type) (e .flags)) (registerEntries c)
 abbrev pub registerPlaces : Chip → List ℕ
 registerPlaces c = map (λ e. e .instance .place) (registerEntries c)
 
--- The names of the node instances, the kinds that their rules may name, and their places.
-abbrev pub nodeKeys : Chip → List ℕ
-nodeKeys c = map (λ e. keyOf (e .id) (e .instance .number)) (nodeEntries c)
-
+-- The kinds that the rules of the node instances may name, and the places of these.
 abbrev pub nodeWanted : Chip → List ℕ
 nodeWanted c = map entryWanted (nodeEntries c)
 

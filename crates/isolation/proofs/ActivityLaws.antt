@@ -1,14 +1,13 @@
 -- The laws of the code that finds active bits and unread registers.
 use Prim.Native.Nat.{ℕ, zero, suc, _+_, _-_, _≤_, _<_}
 use mathlib.Core.Bool.{Bool, true, false, not, _||_}
-use mathlib.Core.List.{List, [], _∷_, _++_, map, map-append}
+use mathlib.Core.List.{List, [], _∷_, map}
 use mathlib.Core.Logic.{_⊎_, inl, inr, ⊎-elim}
 use mathlib.Core.Path.{_≡_, refl, sym, _∙_, ap, subst}
 use native.Mathlib.Numerals.{add-one}
 use native.Mathlib.Omega.{arith}
 use lib.Dec.{ltb, eqb}
-use lib.ListN.{length, getD, set, take, length-map, length-take}
-use lib.Seq.{take-all, take-add}
+use lib.ListN.{length, getD, set}
 use borrow.Author.Tests.{eq-eqb, ne-eqb, le-ltb, lt-ltb}
 use Rattle.numbers.proofs.Bools.{either, clash}
 use Rattle.format.specs.ExpressionLayout.{exprAt}
@@ -20,11 +19,11 @@ use Rattle.format.specs.Rules.{Every}
 use Rattle.format.specs.Tree.{Expr, Rule, NodeInstance}
 use Rattle.format.proofs.FaultsLaws.{below?}
 use Rattle.format.proofs.GatheredLaws.{gathered-one}
-use Rattle.format.proofs.PositionsLaws.{at-first, at-next, at-inside, inside-at, every-at}
+use Rattle.format.proofs.PositionsLaws.{at-first, at-next}
 use Rattle.tables.specs.Tables.{written}
-use Rattle.tables.proofs.TablesLaws.{written-append}
+use Rattle.index.proofs.FillingLaws.{gathered-each}
 use Rattle.links.specs.Links.{rulePlace}
-use Rattle.references.proofs.KeysLaws.{column-at}
+use Rattle.links.proofs.WritingLaws.{Writing, writing-begin, writing-next, writing-end, one-written}
 use Rattle.rules.specs.declared.Value.{Value}
 use Rattle.rules.specs.Value.{faulty, firstPlace, valued}
 use Rattle.isolation.specs.declared.Activity.{Activity}
@@ -133,40 +132,14 @@ module _ (keys words read : List ℕ) (attention : ℕ) (e : NodeEntry) where
       (word-of (r .expression) d ∙ sym (o .0), place-of (r .expression) d ∙ sym (o .1)))
       (rule-cases (RuleAgain s) attention (e .instance) again)
 
--- A column, entry after entry
-
-taken : {A : Type 0} (f : A → ℕ) (i : ℕ) (xs : List A) {x : A} → at i xs ≡ x ∷ [] → length (map f (take i xs)) ≡ i
-taken f i xs q = omega (arith, length-map (take i xs) f, length-take i xs, inside-at i xs q)
-
-take-next : {A : Type 0} (i : ℕ) (xs : List A) {x : A} → at i xs ≡ x ∷ [] → take (i + 1) xs ≡ take i xs ++ (x ∷ [])
-unfolding at
-take-next i xs q = take-add i 1 xs ∙ ap (λ y. take i xs ++ y) q
-
-one-written : (t : List ℕ) (k x : ℕ) → written t k (x ∷ []) ≡ set t k x
-unfolding written
-one-written t k x = refl
-
-column-next : {A : Type 0} (f : A → ℕ) (i : ℕ) (xs : List A) {x : A} → at i xs ≡ x ∷ [] → (t₀ : List ℕ) {t u : List ℕ} {v : ℕ}
-    → t ≡ written t₀ 0 (map f (take i xs)) → u ≡ set t i v → v ≡ f x → u ≡ written t₀ 0 (map f (take (i + 1) xs))
-column-next f i xs {x} q t₀ {t} {u} {v} e d w =
-    let n : 0 + length (map f (take i xs)) ≡ i = omega (arith, taken f i xs q) in
-    let l : written t₀ 0 (map f (take (i + 1) xs)) ≡ written (written t₀ 0 (map f (take i xs))) (0 + length (map f (take i xs))) (f x ∷ []) =
-    ap (λ y. written t₀ 0 (map f y)) (take-next i xs q) ∙ ap (written t₀ 0) (map-append f (take i xs) (x ∷ [])) ∙ written-append t₀ 0 (map f (take i xs)) (f x ∷ []) in
-    d ∙ ap (λ y. set y i v) e ∙ ap (set (written t₀ 0 (map f (take i xs))) i) w
-    ∙ sym (l ∙ ap (λ k. written (written t₀ 0 (map f (take i xs))) k (f x ∷ [])) n ∙ one-written _ i (f x))
-
-column-none : {A : Type 0} (f : A → ℕ) (xs : List A) (t : List ℕ) → t ≡ written t 0 (map f (take 0 xs))
-unfolding written
-column-none f xs t = refl
-
--- The tables hold what the first i node instances give.
+-- The tables hold what the node instances before i give.
 pub record Filling (s rules keys words read a₀ a u₀ u : List ℕ) (i : ℕ) : Type 0 where
-  pub filled : (attention : ℕ) (es : List NodeEntry) → Every (RulesAgain s) es → rules ≡ map (λ e. rulePlace attention (e .instance .rules)) es
-      → (a ≡ written a₀ 0 (map (activeWord keys words read attention) (take i es))) × (u ≡ written u₀ 0 (map (unreadPlace keys read attention) (take i es)))
+  pub active : (attention : ℕ) → Writing (RulesAgain s) (λ e. rulePlace attention (e .instance .rules)) rules (λ e. activeWord keys words read attention e ∷ []) a₀ a i i
+  pub unread : (attention : ℕ) → Writing (RulesAgain s) (λ e. rulePlace attention (e .instance .rules)) rules (λ e. unreadPlace keys read attention e ∷ []) u₀ u i i
 
 module _ (s rules keys words read : List ℕ) where
   pub filling-begin : (a u : List ℕ) → Filling s rules keys words read a a u u 0
-  filling-begin a u = record { filled = λ attention es h e. (column-none (activeWord keys words read attention) es a, column-none (unreadPlace keys read attention) es u) }
+  filling-begin a u = record { active = λ attention. writing-begin _ _ _ _ a; unread = λ attention. writing-begin _ _ _ _ u }
 
   module _ {a₀ a u₀ u : List ℕ} {i : ℕ} (f : Filling s rules keys words read a₀ a u₀ u i) where
     pub filling-next : i < length rules → {x : Activity} {b v : List ℕ} → (getD rules i 0 ≡ 0 → x ≡ inactive)
@@ -174,26 +147,16 @@ module _ (s rules keys words read : List ℕ) where
         → b ≡ set a i (x .word) → v ≡ set u i (x .unread) → Filling s rules keys words read a₀ b u₀ v (i + 1)
     filling-next h none some p q =
         record {
-          filled = λ attention es again e.
-              let l : length rules ≡ length es = ap length e ∙ length-map es (λ e. rulePlace attention (e .instance .rules)) in
-              let d = at-inside i es (omega arith) in
-              let w : getD rules i 0 ≡ rulePlace attention (d .0 .instance .rules) = ap (λ r. getD r i 0) e ∙ column-at (λ e. rulePlace attention (e .instance .rules)) es i (d .1) in
-              let g = entry-active keys words read attention (d .0) s (every-at (RulesAgain s) i es again (d .1)) w none some in
-              let r = f .filled attention es again e in
-              (column-next (activeWord keys words read attention) i es (d .1) a₀ (r .0) p (g .0), column-next (unreadPlace keys read attention) i es (d .1) u₀ (r .1) q (g .1));
+          active = λ attention. writing-next _ _ _ _ (f .active attention) h (λ e again w. one-written a i p (entry-active keys words read attention e s again w none some .0));
+          unread = λ attention. writing-next _ _ _ _ (f .unread attention) h (λ e again w. one-written u i q (entry-active keys words read attention e s again w none some .1));
         }
 
     module _ (h : length rules ≤ i) (attention : ℕ) (es : List NodeEntry) (again : Every (RulesAgain s) es) (e : rules ≡ map (λ e. rulePlace attention (e .instance .rules)) es) where
-      all-taken : take i es ≡ es
-      all-taken =
-          take-all i es
-          (let l : length rules ≡ length es = ap length e ∙ length-map es (λ e. rulePlace attention (e .instance .rules)) in omega arith)
-
       pub filling-active : a ≡ written a₀ 0 (map (activeWord keys words read attention) es)
-      filling-active = f .filled attention es again e .0 ∙ ap (λ x. written a₀ 0 (map (activeWord keys words read attention) x)) all-taken
+      filling-active = writing-end _ _ _ _ (f .active attention) h es again e ∙ ap (written a₀ 0) (gathered-each (activeWord keys words read attention) es)
 
       pub filling-unread : u ≡ written u₀ 0 (map (unreadPlace keys read attention) es)
-      filling-unread = f .filled attention es again e .1 ∙ ap (λ x. written u₀ 0 (map (unreadPlace keys read attention) x)) all-taken
+      filling-unread = writing-end _ _ _ _ (f .unread attention) h es again e ∙ ap (written u₀ 0) (gathered-each (unreadPlace keys read attention) es)
 
 -- The first unread register of done node instances
 

@@ -22,9 +22,9 @@ use Rattle.tables.proofs.TablesLaws.{written-front}
 use Rattle.walk.specs.Marks.{finished}
 use Rattle.walk.specs.TableGraph.{sizeOf, tableGraph}
 use Rattle.walk.proofs.Step.{length-tabulate}
-use Rattle.index.specs.Columns.{registerKeys, nodeKeys}
+use Rattle.tables.specs.Keys.{registerKeys, nodeKeys}
 use Rattle.links.specs.Links.{childRow}
-use Rattle.references.proofs.KeysLaws.{column-at}
+use Rattle.tables.proofs.ColumnLaws.{column-at}
 use Rattle.references.proofs.TablesLaws.{nodes-fit}
 use Rattle.reader.proofs.FaultsLaws.{front}
 use Rattle.isolation.specs.declared.Listing

@@ -1,19 +1,16 @@
 -- The tables that the reader prepares, as isolation uses them.
-use Prim.Native.Nat.{ℕ, _*_, _/_, _≤_, _<_}
+use Prim.Native.Nat.{ℕ, _/_, _≤_, _<_}
 use mathlib.Core.Bool.{true, cond}
-use mathlib.Core.List.{List, [], _∷_, _++_, map}
+use mathlib.Core.List.{List, [], _∷_}
 use mathlib.Core.Path.{_≡_, refl, sym, _∙_, ap}
 use native.Mathlib.Omega.{arith}
-use lib.Dec.{lit<}
-use lib.ListN.{length, take, drop, getD, replicate, length-map, length-replicate}
+use lib.ListN.{length, take, drop, getD, length-map}
 use borrow.Author.Tests.{le-leb}
 use Rattle.numbers.proofs.BigEndianLaws.{Bytes}
 use Rattle.format.specs.Limits.{registerLimit, nodeLimit}
 use Rattle.format.specs.Lookup.{registerEntries, nodeEntries}
 use Rattle.format.specs.Parsed.{Parsed, done, refused}
-use Rattle.format.specs.declared.Kind.{Kind}
-use Rattle.format.specs.declared.Kind.the-variants.{FileTooLong, FieldCut, WrongKeyword, WrongVersion, ZeroCount, UnknownValue, Duplicate, TooManyInstances, BadExpression, BitTooHigh, BytesAfterEnd, NameAbsent, RegisterUnfit, ChildCycle, BadAttentionType, NoRoot, ReadingsUnfit, RegisterUnread, NoRoom}
-use Rattle.format.specs.Refusals.{numberOf, CheckValues, refusedWith}
+use Rattle.format.specs.Refusals.{CheckValues, refusedWith}
 use Rattle.format.specs.Rules.{Meets}
 use Rattle.format.specs.Tree.{Chip}
 use Rattle.format.specs.Verdict.{verdict, checkOf, check}
@@ -21,7 +18,7 @@ use Rattle.format.proofs.Acceptance.{acceptance, read-to-end}
 use Rattle.format.proofs.NumberedLaws.{verdict-numbered}
 use Rattle.tables.specs.Tables.{keyOf, written}
 use Rattle.tables.proofs.TablesLaws.{written-front}
-use Rattle.index.specs.Columns.{registerKeys, nodeKeys}
+use Rattle.tables.specs.Keys.{registerKeys, nodeKeys}
 use Rattle.links.specs.Links.{rulePlace}
 use Rattle.references.specs.RootIn.{rootPosition}
 use Rattle.reader.specs.Prepared.{Lent, ruleColumn, childColumn, filledFor, roomOf, prepared}
@@ -30,28 +27,6 @@ use Rattle.reader.proofs.FaultsLaws.{front}
 use Rattle.isolation.specs.Outcome.{refusedOutcome, isolate}
 use Rattle.isolation.specs.Ready.{Tabled}
 use Rattle.isolation.proofs.AnswerLaws.{file-refused}
-
--- Every kind of refusal has a number of the table.
-pub kind-some : (k : Kind) → 0 < numberOf k
-kind-some FileTooLong = lit< tt
-kind-some FieldCut = lit< tt
-kind-some WrongKeyword = lit< tt
-kind-some WrongVersion = lit< tt
-kind-some ZeroCount = lit< tt
-kind-some UnknownValue = lit< tt
-kind-some Duplicate = lit< tt
-kind-some TooManyInstances = lit< tt
-kind-some BadExpression = lit< tt
-kind-some BitTooHigh = lit< tt
-kind-some BytesAfterEnd = lit< tt
-kind-some NameAbsent = lit< tt
-kind-some RegisterUnfit = lit< tt
-kind-some ChildCycle = lit< tt
-kind-some BadAttentionType = lit< tt
-kind-some NoRoot = lit< tt
-kind-some ReadingsUnfit = lit< tt
-kind-some RegisterUnread = lit< tt
-kind-some NoRoom = lit< tt
 
 -- What the checker's answer says of the verdict.
 module _ (file : List ℕ) where

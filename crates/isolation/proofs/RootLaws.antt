@@ -1,11 +1,11 @@
 -- The wanted root by its position, and refusals 15 to 17.
-use Prim.Native.Nat.{ℕ, suc, _^_, _≤_, _<_}
-use mathlib.Core.Bool.{Bool, true, false, cond, _&&_, _||_}
-use mathlib.Core.List.{List, [], _∷_, map}
+use Prim.Native.Nat.{ℕ, suc, _≤_, _<_}
+use mathlib.Core.Bool.{Bool, true, false, cond, _||_}
+use mathlib.Core.List.{List, [], _∷_}
 use mathlib.Core.Logic.{_⊎_, ⊎-elim}
-use mathlib.Core.Path.{_≡_, refl, sym, _∙_, ap, subst}
+use mathlib.Core.Path.{_≡_, refl, sym, _∙_, ap}
 use native.Mathlib.Omega.{arith}
-use lib.Dec.{eqb, leb}
+use lib.Dec.{eqb}
 use lib.ListN.{length, length-map}
 use borrow.Author.Tests.{le-leb, lt-leb}
 use Rattle.numbers.proofs.BigEndianLaws.{Bytes}
@@ -15,20 +15,18 @@ use Rattle.format.specs.Limits.{nodeLimit}
 use Rattle.format.specs.Lookup.{some, position, at, registerEntries, nodeEntries, nodePosition}
 use Rattle.format.specs.Parsed.{done}
 use Rattle.format.specs.Rules.{Meets}
-use Rattle.format.specs.Tree.{Root, Chip}
-use Rattle.format.specs.Verdict.{verdict}
+use Rattle.format.specs.Tree.{Root}
 use Rattle.format.proofs.Acceptance.{acceptance, read-to-end}
 use Rattle.format.proofs.PositionsLaws.{at-first, at-next, every-at, inside-at}
 use Rattle.tables.specs.Faults.{positionIn}
-use Rattle.index.specs.Columns.{registerKeys, nodeKeys}
 use Rattle.references.specs.RootIn.{rootPosition}
 use Rattle.references.proofs.TablesLaws.{node-position-in}
 use Rattle.isolation.specs.Activity.{fitting}
-use Rattle.isolation.specs.ChipGraph.{firstOf, rootFor}
-use Rattle.isolation.specs.Outcome.{Outcome, refusedOutcome, isolate}
+use Rattle.isolation.specs.ChipGraph.{rootFor}
+use Rattle.isolation.specs.Outcome.{refusedOutcome, isolate}
 use Rattle.isolation.specs.Ready.{Tabled, Ready}
 use Rattle.isolation.proofs.AnswerLaws.{type-refused, root-refused, readings-refused}
-use Rattle.isolation.proofs.ChipLaws.{first-none, first-some, first-out, root-inside}
+use Rattle.isolation.proofs.ChipLaws.{first-none, first-some, root-inside}
 
 module _ (nodes : List ℕ) (attention : ℕ) where
   abbrev wanted : Root → Bool

@@ -1,8 +1,7 @@
 -- What the code finds in the tables of an accepted file decides.
-use Prim.Native.Nat.{ℕ, _≤_, _<_}
-use mathlib.Core.List.{List, [], _∷_, _++_, map}
+use Prim.Native.Nat.{ℕ, _≤_}
+use mathlib.Core.List.{List, [], _∷_, map}
 use mathlib.Core.Path.{_≡_, refl, sym, _∙_, ap}
-use native.Mathlib.Omega.{arith}
 use lib.ListN.{length, take, getD, replicate, length-map, length-replicate}
 use Rattle.numbers.proofs.BigEndianLaws.{Bytes}
 use Rattle.format.specs.Lookup.{at, NodeEntry, registerEntries, nodeEntries}
@@ -12,8 +11,8 @@ use Rattle.format.specs.Rules.{Every, Meets}
 use Rattle.format.specs.Tree.{Chip}
 use Rattle.format.specs.Verdict.{verdict}
 use Rattle.format.proofs.Acceptance.{acceptance, read-to-end}
-use Rattle.tables.specs.Tables.{keyOf, written}
-use Rattle.index.specs.Columns.{registerKeys, nodeKeys}
+use Rattle.tables.specs.Tables.{written}
+use Rattle.tables.specs.Keys.{registerKeys}
 use Rattle.links.specs.Links.{rulePlace}
 use Rattle.walk.specs.declared.Walked.{Walked}
 use Rattle.walk.specs.Marks.{finished}
@@ -22,7 +21,7 @@ use Rattle.isolation.specs.declared.Listing
 use Rattle.isolation.specs.declared.Listing.{Listing}
 use Rattle.isolation.specs.Activity.{RulesAgain, activeWord, unreadPlace, firstUnread}
 use Rattle.isolation.specs.Outcome.{refusedOutcome, doneOutcome, isolate}
-use Rattle.isolation.specs.Ready.{Tabled, Ready}
+use Rattle.isolation.specs.Ready.{Ready}
 use Rattle.isolation.specs.Rows.{rowsRecords, listingOf, listAfter}
 use Rattle.isolation.proofs.AnswerLaws.{column-front, column-entry, unread-refused, never-unfit, room-refused, all-written}
 use Rattle.isolation.proofs.UnreadLaws.{entries-rules}

@@ -27,10 +27,11 @@ use Rattle.format.proofs.PositionsLaws.{at-inside, every-at, some-one}
 use Rattle.tables.specs.Faults.{positionIn, wordIn, unreadIn}
 use Rattle.walk.specs.TableGraph.{sizeOf, childAt, tableGraph}
 use Rattle.walk.proofs.Tables.{table-sound}
-use Rattle.index.specs.Columns.{registerKeys, nodeKeys}
+use Rattle.tables.specs.Keys.{registerKeys, nodeKeys}
 use Rattle.links.specs.Links.{childRow, childIn}
 use Rattle.links.proofs.TableLaws.{at-most, table-child}
-use Rattle.references.proofs.KeysLaws.{column-at, Fitting, names-fit}
+use Rattle.tables.proofs.ColumnLaws.{column-at}
+use Rattle.references.proofs.KeysLaws.{Fitting, names-fit}
 use Rattle.references.proofs.TablesLaws.{register-position-in}
 use Rattle.reader.proofs.CycleLaws.{children-fit, entry-children}
 use Rattle.rules.specs.Value.{faulty}

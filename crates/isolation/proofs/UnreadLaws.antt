@@ -26,7 +26,7 @@ use Rattle.format.proofs.GatheredLaws.{gathered-append, gathered-one}
 use Rattle.format.proofs.PlacesLaws.{entries-stand, rules-again}
 use Rattle.format.proofs.PositionsLaws.{at-inside, every-at}
 use Rattle.walk.specs.TableGraph.{tableGraph}
-use Rattle.index.specs.Columns.{registerKeys, nodeKeys}
+use Rattle.tables.specs.Keys.{registerKeys, nodeKeys}
 use Rattle.links.specs.Links.{childRow}
 use Rattle.rules.specs.Value.{firstPlace}
 use Rattle.isolation.specs.ChipGraph.{ruleUnread, chipGraph}

@@ -9,9 +9,8 @@ use Rattle.format.specs.Lookup.{registerEntries, nodePosition}
 use Rattle.format.specs.Parsed.{done}
 use Rattle.format.specs.Tree.{Root, Chip}
 use Rattle.format.specs.Verdict.{verdict}
-use Rattle.index.specs.Columns.{registerKeys, nodeKeys}
+use Rattle.tables.specs.Keys.{registerKeys, nodeKeys}
 use Rattle.reader.specs.Prepared.{ruleColumn, childColumn}
-use Rattle.references.specs.RootIn.{rootPosition}
 use Rattle.isolation.specs.ChipGraph.{rootFor}
 use Rattle.isolation.specs.Activity.{fitting}
 

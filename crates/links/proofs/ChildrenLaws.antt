@@ -16,34 +16,19 @@ use Rattle.format.specs.Tree.{Child, NodeInstance}
 use Rattle.format.proofs.ParsedLaws.{then-out, making-out, requiring-out}
 use Rattle.tables.specs.Tables.{written}
 use Rattle.tables.specs.Faults.{positionIn}
-use Rattle.index.proofs.Again.{same-done}
-use Rattle.index.proofs.PartsLaws.{child-fields}
+use Rattle.index.proofs.PartsLaws.{child-fields, naming-all}
 use Rattle.index.proofs.RowsLaws.{row-every}
 use Rattle.links.specs.declared.Link.{Link}
 use Rattle.links.specs.Links.{childNumber, linked, childless, childRow, linkOf}
 
--- A child whose bit t the code read, with the place a after it.
-module _ (s : List ℕ) (at : ℕ) {t a : ℕ} (o : done t a ≡ fieldAt s at 1) (before : List Child) (k : Child) (m : ℕ) (e : childAt s true before at ≡ done k m) where
-  pub child-id : (b : ℕ) × (fieldAt s a 2 ≡ done (k .id) b) × (fieldAt s b 1 ≡ done (k .number) m) × (t ≡ k .bit)
-  child-id =
-      let f = child-fields s at before e in
-      let g = same-done o (f .2) in
-      (f .1, rw (g .1) (f .3), f .4, g .0)
-
-  module _ {id b : ℕ} (p : done id b ≡ fieldAt s a 2) where
-    pub child-number : (fieldAt s b 1 ≡ done (k .number) m) × (id ≡ k .id)
-    child-number =
-        let f = child-id in
-        let g = same-done p (f .1) in
-        (rw (g .1) (f .2), g .0)
-
-    pub child-link : (nodes : List ℕ) {number next x : ℕ} → done number next ≡ fieldAt s b 1 → x ≡ positionIn nodes id number
-        → _≡_ {A = Link} (record { bit = t; number = x % 0x10000; next = next }) (linkOf nodes k m)
-    unfolding childNumber
-    child-link nodes q h =
-        let f = child-number in
-        let g = same-done q (f .0) in
-        rw (h, child-id .3, f .1, g .0, g .1)
+-- A child whose fields the code read.
+pub child-link : (s : List ℕ) (at : ℕ) {t a : ℕ} → done t a ≡ fieldAt s at 1 → (before : List Child) (k : Child) (m : ℕ) → childAt s true before at ≡ done k m
+    → {id b : ℕ} → done id b ≡ fieldAt s a 2 → (nodes : List ℕ) {number next x : ℕ} → done number next ≡ fieldAt s b 1 → x ≡ positionIn nodes id number
+    → _≡_ {A = Link} (record { bit = t; number = x % 0x10000; next = next }) (linkOf nodes k m)
+unfolding childNumber
+child-link s at o before k m e p nodes q h =
+    let w = naming-all (child-fields s at before e .0) o p q in
+    rw (h, w .0, w .1, w .2, w .3)
 
 -- The bit of a child that was read.
 child-small : (s : List ℕ) (before : List Child) (at : ℕ) (k : Child) (m : ℕ) → childAt s true before at ≡ done k m → k .bit < 64

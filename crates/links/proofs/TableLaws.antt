@@ -1,10 +1,10 @@
 -- What a table of children says of a bit of a node instance.
 use Prim.Native.Nat.{ℕ, zero, suc, _+_, _*_, _≤_, _<_}
 use mathlib.Core.Bool.{true, false}
-use mathlib.Core.List.{List, [], _∷_, _++_, map, append-assoc, append-nil}
+use mathlib.Core.List.{List, [], _∷_, _++_, map, append-assoc}
 use mathlib.Core.Logic.{_⊎_, inl, inr, ⊎-elim}
 use mathlib.Core.Option.{none, some}
-use mathlib.Core.Path.{_≡_, refl, sym, _∙_, ap, subst}
+use mathlib.Core.Path.{_≡_, sym, _∙_, ap, subst}
 use native.Mathlib.Omega.{arith}
 use borrow.Author.Tests.{eqb-true, eqb-false, ne-eqb, lt-ltb, le-ltb}
 use lib.Dec.{eqb}
@@ -140,10 +140,3 @@ module _ (nodes : List ℕ) (es : List NodeEntry) (few : length es ≤ 256) (fit
       let r = rows-place (λ e. childRow nodes (e .instance)) (λ e. child-row-length nodes (e .instance)) rest es i q b h in
       let f = every-at (λ e. ChildrenFit nodes (length es) (e .instance)) i es fit q in
       held nodes (length es) few _ _ (r .1) _ (e .instance .children) (f .present) (r .0 ∙ row-child nodes b (e .instance) h (f .unique))
-
-  pub row-table-child : childAt (length es) (gathered (λ e. childRow nodes (e .instance)) es) (i * 64 + b)
-      ≡ childIn nodes (at (position (λ k. eqb (k .bit) b) (e .instance .children)) (e .instance .children))
-  row-table-child =
-      subst
-      (λ t. childAt (length es) t (i * 64 + b) ≡ childIn nodes (at (position (λ k. eqb (k .bit) b) (e .instance .children)) (e .instance .children)))
-      (append-nil (gathered (λ e. childRow nodes (e .instance)) es)) (table-child [])

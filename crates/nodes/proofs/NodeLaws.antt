@@ -1,8 +1,8 @@
 -- The laws of the nodes section.
-use Prim.Native.Nat.{ℕ, _+_, _-_, _≤_, _<_}
+use Prim.Native.Nat.{ℕ, _+_, _≤_, _<_}
 use mathlib.Core.Path.{_≡_, refl, sym, _∙_, ap}
 use mathlib.Core.Bool.{true}
-use mathlib.Core.List.{List, [], _∷_, map}
+use mathlib.Core.List.{List, [], map}
 use native.Mathlib.Omega.{arith}
 use borrow.Author.Tests.{ltb-true}
 use lib.ListN.{length}
@@ -147,13 +147,5 @@ node-size s before at {i} {k} {m} e =
     (h .count) [] (d .place) (j .is) c in
     let q : length (j .value) ≡ k = ap length o ∙ n in
     (omega arith, omega arith)
-
-pub node-nothing : nodeTotal [] ≡ 0
-unfolding nodeTotal
-node-nothing = refl
-
-pub node-another : (n : Node) (ns : List Node) → nodeTotal (n ∷ ns) ≡ length (n .instances) + nodeTotal ns
-unfolding nodeTotal
-node-another n ns = refl
 
 pub ruleset node-laws = (rule-told, child-told, head-told, instance-told, instance-stop, node-told, head-then, head-stop)

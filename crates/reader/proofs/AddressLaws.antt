@@ -1,35 +1,36 @@
 -- The checker's answer and the address of a register instance.
 use Prim.Native.Nat.{ℕ, _+_, _-_, _/_, _≤_, _<_}
-use mathlib.Core.Bool.{Bool, true, false, cond, _&&_}
-use mathlib.Core.List.{List, [], _∷_, map}
+use mathlib.Core.List.{List, [], _∷_}
 use mathlib.Core.Logic.{_⊎_, ⊎-elim}
 use mathlib.Core.Path.{_≡_, refl, sym, _∙_, ap, subst}
 use native.Mathlib.Omega.{arith}
-use lib.Dec.{eqb, ltb}
 use lib.ListN.{length, getD, take, drop, length-map, length-take, length-drop}
-use borrow.Author.Tests.{eq-eqb, ne-eqb, eqb-true, ltb-true, ltb-false, lt-ltb}
+use borrow.Author.Tests.{eq-eqb, ne-eqb, eqb-true, ltb-false}
 use Rattle.numbers.specs.BigEndian.{bytesOf}
 use Rattle.numbers.proofs.BigEndianLaws.{Bytes, length-bytes}
-use Rattle.numbers.proofs.Bools.{either, clash, and-left}
+use Rattle.numbers.proofs.Bools.{either, and-left}
 use Rattle.format.specs.Limits.{fileLimit}
 use Rattle.format.specs.Fields.{addressSize}
-use Rattle.format.specs.Lookup.{some, position, at, RegisterEntry, registerEntries, registerNamed, registerPosition}
+use Rattle.format.specs.Lookup.{some, at, RegisterEntry, registerEntries, registerNamed, registerPosition}
 use Rattle.format.specs.Parsed.{Parsed, done, refused, making}
-use Rattle.format.specs.Refusals.{CheckValues, refusedWith, AddressValues}
-use Rattle.format.specs.Rules.{Every, FieldsFit}
+use Rattle.format.specs.Refusals.{CheckValues, refusedWith}
+use Rattle.format.specs.Rules.{FieldsFit}
 use Rattle.format.specs.Tree.{Chip}
 use Rattle.format.specs.Verdict.{verdict, checkOf, check, addressIn, addressOf, address}
 use Rattle.format.proofs.Acceptance.{verdict-out, read-to-end}
 use Rattle.format.proofs.NumberedLaws.{verdict-numbered}
 use Rattle.format.proofs.PlacesLaws.{addresses-again}
+use Rattle.format.proofs.RegistersAccepted.{size-positive}
 use Rattle.links.proofs.TableLaws.{at-most}
 use Rattle.format.proofs.FaultsLaws.{at-none}
 use Rattle.format.proofs.PositionsLaws.{every-at, at-inside}
 use Rattle.fields.proofs.Parsing.{Found, found, missed}
 use Rattle.tables.specs.Faults.{positionIn}
 use Rattle.index.specs.Rows.{kindOf}
-use Rattle.index.specs.Columns.{registerKeys, registerKinds, registerPlaces}
-use Rattle.references.proofs.KeysLaws.{column-at, some-out, some-position}
+use Rattle.tables.specs.Keys.{registerKeys}
+use Rattle.index.specs.Columns.{registerKinds, registerPlaces}
+use Rattle.tables.proofs.ColumnLaws.{column-at}
+use Rattle.references.proofs.KeysLaws.{some-out, some-position}
 use Rattle.references.proofs.TablesLaws.{registers-fit, register-position-in}
 use Rattle.reader.specs.Layout.{Summary, layoutValues, chipValues}
 
@@ -146,19 +147,11 @@ module _ (s : List ℕ) (bytes : Bytes s) where
       let l : length (take n (drop p s)) ≡ n = ap length e ∙ length-bytes n x in
       omega (arith, length-take n (drop p s), length-drop p s)
 
-  size-some : (t : ℕ) → 0 < addressSize t
-  unfolding addressSize
-  size-some t = go (eqb t 1)
-    where
-      go : (b : Bool) → 0 < cond b 4 8
-      go true = omega arith
-      go false = omega arith
-
   entry-within : {c : Chip} {end : ℕ} → verdict s ≡ done c end → (i : ℕ) {e : RegisterEntry} → at i (registerEntries c) ≡ e ∷ [] → e .instance .place + addressSize (e .type) ≤ length s
   entry-within {c} {end} v i {e} q =
       let w : verdict s ≡ done c (length s) = v ∙ ap (done c) (read-to-end s bytes v) in
       let h = every-at _ i (registerEntries c) (addresses-again s bytes c w) q in
-      part-within (e .instance .place) (addressSize (e .type)) (e .instance .address) (size-some (e .type)) h
+      part-within (e .instance .place) (addressSize (e .type)) (e .instance .address) (size-positive (e .type)) h
 
   in-within : {c : Chip} {end : ℕ} → verdict s ≡ done c end → (i : ℕ) {o n : ℕ} → record { number = 0; place = 0; offset = o; size = n } ≡ addressIn (at i (registerEntries c)) → o + n ≤ length s
   unfolding addressIn

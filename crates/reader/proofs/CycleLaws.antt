@@ -1,16 +1,16 @@
 -- The cycles of the table of children are the cycles of the child entries.
-use Prim.Native.Nat.{ℕ, zero, suc, _+_, _*_, _≤_, _<_, _^_}
-use mathlib.Core.Bool.{Bool, true, false, not, cond, _&&_}
+use Prim.Native.Nat.{ℕ, suc, _+_, _*_, _≤_, _<_, _^_}
+use mathlib.Core.Bool.{Bool, true, false, cond}
 use mathlib.Core.List.{List, [], _∷_, _++_, map}
 use mathlib.Core.Logic.{_⊎_, ⊎-elim}
-use mathlib.Core.Option.{Option, none, some}
+use mathlib.Core.Option.{some}
 use mathlib.Core.Path.{_≡_, refl, sym, _∙_, ap, subst, fun-ext}
 use native.Mathlib.Omega.{arith}
-use lib.Dec.{eqb, ltb}
+use lib.Dec.{eqb}
 use lib.ListN.{length, getD, drop, replicate, length-replicate, length-map, length-append}
-use borrow.Author.Tests.{eqb-true, eq-eqb, ltb-true, lt-ltb, ltb-false}
+use borrow.Author.Tests.{eqb-true, eq-eqb, ltb-true, lt-ltb}
 use Rattle.numbers.proofs.BigEndianLaws.{Bytes}
-use Rattle.numbers.proofs.Bools.{either, clash, and-left, and-right}
+use Rattle.numbers.proofs.Bools.{clash, same-truth}
 use Rattle.graph.specs.Chains.{names}
 use Rattle.graph.specs.Paths.{onCycle}
 use Rattle.format.specs.Cycles.{leads, childEdge, cyclesFrom, cycleFaults}
@@ -18,7 +18,7 @@ use Rattle.format.specs.FileLayout.{fileAt}
 use Rattle.format.specs.Limits.{nodeLimit}
 use Rattle.format.specs.Lookup as lookup
 use Rattle.format.specs.Lookup.{position, at, gathered, NodeEntry, nodeEntries, nodeNamed, nodePosition}
-use Rattle.format.specs.Parsed.{Parsed, done, refused}
+use Rattle.format.specs.Parsed.{done, refused}
 use Rattle.format.specs.References.{hasNode, referenceFaults, unless}
 use Rattle.format.specs.Rules.{Every, NamesPresent, allChildren}
 use Rattle.format.specs.Tree.{Child, Chip}
@@ -26,19 +26,20 @@ use Rattle.format.proofs.EveryLaws.{every-map, every-both, every-gathered-out}
 use Rattle.format.proofs.FaultsLaws.{references-out, edges-inside}
 use Rattle.format.proofs.Grouping.{LayoutMeets}
 use Rattle.format.proofs.PositionsLaws.{at-first, at-next, every-at, at-inside, inside-at, position-at, some-at, some-one, key-position, node-position}
-use Rattle.walk.specs.TableGraph.{childAt}
 use Rattle.cycles.specs.Cycle.{tableEdge, inCycle, firstBelow, firstCycle}
-use Rattle.cycles.proofs.TableLaws.{edge-out, edge-in, edge-inside, first-cycle-few}
+use Rattle.cycles.proofs.TableLaws.{edge-out, edge-in, first-cycle-few}
 use Rattle.tables.specs.Tables.{written}
 use Rattle.tables.specs.Faults.{judgedAt, positionIn}
 use Rattle.tables.proofs.TablesLaws.{written-front}
-use Rattle.index.specs.Columns.{nodeKeys, nodePlaces}
+use Rattle.tables.specs.Keys.{nodeKeys}
+use Rattle.index.specs.Columns.{nodePlaces}
 use Rattle.index.specs.Rows.{ReadAgain, entryPlace}
 use Rattle.links.specs.Links.{childRow, childIn, ChildrenFit}
 use Rattle.links.proofs.ChildrenLaws.{child-row-length}
 use Rattle.links.proofs.TableLaws.{at-most, table-child}
-use Rattle.references.proofs.KeysLaws.{some-position, some-out, column-at}
-use Rattle.references.proofs.TablesLaws.{same-bool, node-position-in}
+use Rattle.tables.proofs.ColumnLaws.{column-at}
+use Rattle.references.proofs.KeysLaws.{some-position, some-out}
+use Rattle.references.proofs.TablesLaws.{node-position-in}
 use Rattle.reader.proofs.NameLaws.{layout-meets, entries-again}
 
 module _ (c : Chip) (meets : LayoutMeets c) (present : NamesPresent c) where
@@ -143,7 +144,7 @@ module _ (c : Chip) (meets : LayoutMeets c) (present : NamesPresent c) where
         (ap (λ x. names x j) (table-child (nodeKeys c) entries few children-fit i (a .1) (k .bit) b rest) ∙ named-some j _ k q ∙ eq-eqb _ _ p)
 
     edges-same : tableEdge (length entries) table ≡ childEdge c
-    edges-same = fun-ext λ i. fun-ext λ j. same-bool _ _ (edge-there i j) (edge-back i j)
+    edges-same = fun-ext λ i. fun-ext λ j. same-truth _ _ (edge-there i j) (edge-back i j)
 
     abbrev cyclic : ℕ → Bool
     cyclic i = onCycle (length entries) (childEdge c) i

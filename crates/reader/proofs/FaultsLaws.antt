@@ -1,42 +1,38 @@
 -- The tables of a file, and its faults of 12 to 14.
-use Prim.Native.Nat.{ℕ, zero, suc, _+_, _≤_, _<_}
+use Prim.Native.Nat.{ℕ, _+_, _≤_}
 use mathlib.Core.Bool.{true}
-use mathlib.Core.List.{List, [], _∷_, _++_, map}
+use mathlib.Core.List.{List, [], _∷_, _++_, map, map-map}
 use mathlib.Core.Path.{_≡_, refl, sym, _∙_, ap, subst}
-use native.Mathlib.Omega.{arith}
 use lib.ListN.{length, take, drop, replicate, length-replicate, length-map}
+use lib.Seq.{take-append-seam}
 use Rattle.numbers.proofs.BigEndianLaws.{Bytes}
 use Rattle.format.specs.Cycles.{cycleFaults}
 use Rattle.format.specs.FileLayout.{rootsAt, fileAt}
 use Rattle.format.specs.Limits.{registerLimit, nodeLimit}
-use Rattle.format.specs.Lookup.{gathered, registerEntries, entriesOf, nodeEntries, nodeEntriesOf}
+use Rattle.format.specs.Lookup.{registerEntries, nodeEntries}
 use Rattle.format.specs.NodeLayout.{nodesAt}
 use Rattle.format.specs.Parsed.{Parsed, done, refused}
 use Rattle.format.specs.References.{Fault, referenceFaults}
 use Rattle.format.specs.RegisterLayout.{registersAt}
-use Rattle.format.specs.Tree.{Register, Node, Chip}
+use Rattle.format.specs.Tree.{Chip}
 use Rattle.format.proofs.Grouping.{register-count, node-count}
 use Rattle.format.proofs.ParsedLaws.{never}
 use Rattle.tables.specs.Tables.{written}
 use Rattle.tables.specs.Faults.{judgedAt}
 use Rattle.tables.proofs.TablesLaws.{written-front}
-use Rattle.tables.proofs.FaultsLaws.{judged-stop, judged-on}
+use Rattle.tables.proofs.FaultsLaws.{judged-stop}
 use Rattle.index.specs.Rows.{Rows, filled, rowOf, registerRow, nodeRow}
-use Rattle.index.specs.Columns.{registerKeys, registerKinds, registerPlaces, nodeKeys, nodeWanted, nodePlaces, TablesOf}
+use Rattle.tables.specs.Keys.{registerKeys, nodeKeys}
+use Rattle.index.specs.Columns.{registerKinds, registerPlaces, nodeWanted, nodePlaces}
 use Rattle.index.proofs.Again.{same-done}
-use Rattle.index.proofs.ElementLaws.{map-map}
 use Rattle.index.proofs.FillingLaws.{filled-columns}
 use Rattle.reader.specs.Layout.{Summary, layoutAt}
 use Rattle.reader.proofs.LayoutLaws.{Sections, sections}
 use Rattle.reader.proofs.NameLaws.{layout-meets}
 
 -- What was written to the front of a table that has room.
-pub take-front : (xs ys : List ℕ) → take (length xs) (xs ++ ys) ≡ xs
-take-front [] ys = refl
-take-front (x ∷ xs) ys = ap (λ r. x ∷ r) (take-front xs ys)
-
 pub front : (t xs : List ℕ) (n : ℕ) → n ≡ length xs → length xs ≤ length t → take n (written t 0 xs) ≡ xs
-front t xs n e h = rw (e, written-front t xs h) (take-front xs (drop (length xs) t))
+front t xs n e h = rw (e, written-front t xs h) (take-append-seam xs (drop (length xs) t))
 
 -- No fault: the list is empty.
 pub faultless : (fs : List Fault) {k a : ℕ} {u : Unit {0}} → judgedAt fs k ≡ done u a → (fs ≡ []) × (k ≡ a)

@@ -1,19 +1,20 @@
 -- The lent tables of a file.
-use Prim.Native.Nat.{ℕ, _*_, _/_, _≤_, _<_}
-use mathlib.Core.Bool.{Bool, true, false, cond, _&&_}
-use mathlib.Core.List.{List, [], _∷_, map}
-use mathlib.Core.Path.{_≡_, refl, sym, _∙_, ap}
+use Prim.Native.Nat.{ℕ, _/_, _≤_, _<_}
+use mathlib.Core.Bool.{Bool, true, false, cond}
+use mathlib.Core.List.{List, map}
+use mathlib.Core.Path.{_≡_, sym, _∙_, ap}
 use lib.Dec.{leb}
 use lib.ListN.{length, set}
 use borrow.Author.Tests.{le-leb, lt-leb}
 use Rattle.format.specs.FileLayout.{rootsAt, fileAt}
 use Rattle.format.specs.Lookup.{gathered, NodeEntry, nodeEntries, registerEntries}
-use Rattle.format.specs.Parsed.{Parsed, done, refused}
+use Rattle.format.specs.Parsed.{done, refused}
 use Rattle.format.specs.Rules.{Every}
 use Rattle.format.specs.Tree.{Root, Chip}
 use Rattle.format.specs.Verdict.{verdict}
 use Rattle.tables.specs.Tables.{written}
-use Rattle.index.specs.Columns.{registerKeys, nodeKeys, nodePlaces}
+use Rattle.tables.specs.Keys.{registerKeys, nodeKeys}
+use Rattle.index.specs.Columns.{nodePlaces}
 use Rattle.index.specs.Rows.{ReadAgain, entryPlace}
 use Rattle.links.specs.Links.{rulePlace, childRow}
 use Rattle.references.specs.RootIn.{rootPosition}

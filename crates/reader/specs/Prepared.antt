@@ -8,7 +8,7 @@ use Rattle.format.specs.Lookup.{gathered, registerEntries, nodeEntries}
 use Rattle.format.specs.Parsed.{Parsed, done, refused}
 use Rattle.format.specs.Tree.{Chip}
 use Rattle.tables.specs.Tables.{written}
-use Rattle.index.specs.Columns.{registerKeys, nodeKeys}
+use Rattle.tables.specs.Keys.{registerKeys, nodeKeys}
 use Rattle.links.specs.Links.{rulePlace, childRow}
 use Rattle.references.specs.RootIn.{rootPosition}
 

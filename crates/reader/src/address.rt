@@ -19,7 +19,8 @@ ghost use Rattle.format.specs.Refusals.{addressValues};
 ghost use Rattle.format.specs.Rules.{FieldsFit};
 ghost use Rattle.format.specs.Tree.{Chip};
 ghost use Rattle.format.specs.Verdict.{addressIn, address};
-ghost use Rattle.index.specs.Columns.{registerKeys, registerKinds, registerPlaces};
+ghost use Rattle.tables.specs.Keys.{registerKeys};
+ghost use Rattle.index.specs.Columns.{registerKinds, registerPlaces};
 ghost use Rattle.reader.specs.Layout.{laidOut, layoutAt};
 
 // The address of a register instance by the file's tables. It looks at each key once, up to the one that is sought.

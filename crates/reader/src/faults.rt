@@ -20,7 +20,8 @@ ghost use Rattle.format.specs.References.{referenceFaults};
 ghost use Rattle.format.specs.Tree.{Chip};
 ghost use Rattle.fields.specs.Views.{nextParsed};
 ghost use Rattle.tables.specs.Faults.{judgedAt};
-ghost use Rattle.index.specs.Columns.{nodeKeys, nodePlaces, TablesOf};
+ghost use Rattle.tables.specs.Keys.{nodeKeys};
+ghost use Rattle.index.specs.Columns.{nodePlaces, TablesOf};
 ghost use Rattle.reader.specs.Layout.{laidOut, layoutAt};
 
 // The first fault of 12 and 13, by the file's tables; where there is none, the place after the roots section.

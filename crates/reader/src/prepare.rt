@@ -19,7 +19,8 @@ ghost use Rattle.format.specs.Parsed.{done};
 ghost use Rattle.format.specs.Refusals.{checkedValues};
 ghost use Rattle.format.specs.Tree.{Chip};
 ghost use Rattle.format.specs.Verdict.{verdict, check};
-ghost use Rattle.index.specs.Columns.{registerKeys, nodeKeys, nodePlaces};
+ghost use Rattle.tables.specs.Keys.{registerKeys, nodeKeys};
+ghost use Rattle.index.specs.Columns.{nodePlaces};
 ghost use Rattle.reader.specs.Layout.{laidOut, layoutAt};
 ghost use Rattle.reader.specs.Prepared.{Lent, filledFor, roomOf, prepared};
 

@@ -10,6 +10,7 @@ use Rattle.numbers.proofs.BigEndianLaws.{Bytes}
 use Rattle.format.specs.Lookup.{RegisterEntry, registerEntries}
 use Rattle.format.specs.Rules.{Every}
 use Rattle.format.specs.Tree.{Chip}
+use Rattle.tables.specs.Keys.{registerKeys}
 use Rattle.tables.specs.Tables.{keyOf}
 use Rattle.readings.specs.ReadingsFile.{nameOf, fileOf, chipFile, keyFile, Holdable, fileFits, wordsOf, readOf}
 use Rattle.readings.proofs.DecodedLaws.{decoded-holdable}
@@ -45,33 +46,29 @@ unfolding Every keyOf
 keys-small [] h = tt
 keys-small (e ∷ es) h = (let n : e .instance .number < 256 = h .0 in omega arith, keys-small es (h .1))
 
--- The keys of a chip's register instances.
-abbrev pub chipKeys : Chip → List ℕ
-chipKeys c = map entryKey (registerEntries c)
-
 module _ (c : Chip) (numbered : Every Numbered (registerEntries c)) where
   -- The file of a chip is the file by its keys.
-  pub chip-file : (words read : List ℕ) → keyFile (chipKeys c) words read ≡ chipFile c words read
+  pub chip-file : (words read : List ℕ) → keyFile (registerKeys c) words read ≡ chipFile c words read
   unfolding chipFile keyFile
   chip-file words read = ap (λ names. fileOf names words read) (names-keys (registerEntries c) numbered)
 
-  keys-many : length (chipKeys c) ≡ length (registerEntries c)
+  keys-many : length (registerKeys c) ≡ length (registerEntries c)
   keys-many = length-map (registerEntries c) entryKey
 
   -- A file that fits gives readings for all register instances of the chip, and is the file of these readings.
-  pub chip-decoded : (bytes : List ℕ) → Bytes bytes → fileFits (chipKeys c) bytes ≡ true
-      → Holdable (length (registerEntries c)) (wordsOf (chipKeys c) bytes) (readOf (chipKeys c) bytes)
-      × (chipFile c (wordsOf (chipKeys c) bytes) (readOf (chipKeys c) bytes) ≡ bytes)
+  pub chip-decoded : (bytes : List ℕ) → Bytes bytes → fileFits (registerKeys c) bytes ≡ true
+      → Holdable (length (registerEntries c)) (wordsOf (registerKeys c) bytes) (readOf (registerKeys c) bytes)
+      × (chipFile c (wordsOf (registerKeys c) bytes) (readOf (registerKeys c) bytes) ≡ bytes)
   chip-decoded bytes h e = (
-    rw keys-many at (decoded-holdable (chipKeys c) bytes h e),
-    sym (chip-file (wordsOf (chipKeys c) bytes) (readOf (chipKeys c) bytes)) ∙ read-is-written (chipKeys c) bytes h e,
+    rw keys-many at (decoded-holdable (registerKeys c) bytes h e),
+    sym (chip-file (wordsOf (registerKeys c) bytes) (readOf (registerKeys c) bytes)) ∙ read-is-written (registerKeys c) bytes h e,
   )
 
   -- The file of readings for all register instances fits, and gives them back.
   pub chip-encoded : (words read : List ℕ) → Holdable (length (registerEntries c)) words read
-      → (fileFits (chipKeys c) (chipFile c words read) ≡ true) × (wordsOf (chipKeys c) (chipFile c words read) ≡ words) × (readOf (chipKeys c) (chipFile c words read) ≡ read)
+      → (fileFits (registerKeys c) (chipFile c words read) ≡ true) × (wordsOf (registerKeys c) (chipFile c words read) ≡ words) × (readOf (registerKeys c) (chipFile c words read) ≡ read)
   chip-encoded words read h =
-      let k : Holdable (length (chipKeys c)) words read = rw keys-many h in
+      let k : Holdable (length (registerKeys c)) words read = rw keys-many h in
       let s = keys-small (registerEntries c) numbered in
       rw (← chip-file words read)
-      (written-fits (chipKeys c) words read s k, written-words (chipKeys c) words read s k, written-read-bytes (chipKeys c) words read s k)
+      (written-fits (registerKeys c) words read s k, written-words (registerKeys c) words read s k, written-read-bytes (registerKeys c) words read s k)

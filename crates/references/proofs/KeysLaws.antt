@@ -1,16 +1,16 @@
 -- A name is found by its key where it is found by its ID and number.
-use Prim.Native.Nat.{ℕ, zero, suc, _+_, _*_, _/_, _%_, _^_, _≤_, _<_}
+use Prim.Native.Nat.{ℕ, suc, _+_, _*_, _/_, _%_, _^_, _≤_, _<_}
 use mathlib.Core.Bool.{Bool, true, false, cond, _&&_, _||_}
-use mathlib.Core.List.{List, [], _∷_, _++_, map}
+use mathlib.Core.List.{List, [], _∷_, map}
 use mathlib.Core.Logic.{_⊎_, ⊎-elim}
-use mathlib.Core.Path.{_≡_, refl, sym, _∙_, ap, subst}
+use mathlib.Core.Path.{_≡_, refl, sym, _∙_, ap}
 use native.Mathlib.Nat.{mod-eq-of-lt}
 use native.Mathlib.Omega.{arith}
 use lib.Dec.{eqb, ltb}
-use lib.ListN.{length, getD}
+use lib.ListN.{length}
 use borrow.Author.Tests.{eq-eqb, ne-eqb, eqb-true, eqb-false, lt-ltb, le-ltb, ltb-true, ltb-false}
 use Rattle.numbers.specs.Bits.{bitOf}
-use Rattle.numbers.proofs.Bools.{either, clash, and-left, and-right, and-both}
+use Rattle.numbers.proofs.Bools.{either}
 use Rattle.format.specs.Fields.{readable}
 use Rattle.format.specs.Lookup.{some, position, at}
 use Rattle.format.specs.References.{Named, namedBy, namedByAll}
@@ -19,7 +19,6 @@ use Rattle.format.specs.Tree.{Expr, Exprs, reading, constant, all, any, inverse
 use Rattle.format.proofs.EveryLaws.{every-append-in}
 use Rattle.format.proofs.PositionsLaws.{position-at}
 use Rattle.tables.specs.Tables.{keyOf}
-use Rattle.tables.specs.Faults.{positionIn, present}
 use Rattle.index.specs.Rows.{kindOf, wantedKind}
 
 -- Two names have one key exactly when they are the same.
@@ -81,19 +80,6 @@ module _ {E : Type 0} (test : E → Bool) where
   -- What passes stands somewhere.
   pub some-out : (es : List E) → some test es ≡ true → (i : ℕ) × (e : E) × (at i es ≡ e ∷ []) × (test e ≡ true)
   some-out es h = let r = position-at test es h in (position test es, r .0, r .1, r .2)
-
--- What stands at a position of a column.
-pub column-at : {E : Type 0} (f : E → ℕ) (es : List E) (i : ℕ) {e : E} → at i es ≡ e ∷ [] → getD (map f es) i 0 ≡ f e
-unfolding at
-column-at f [] zero q = let z : _≡_ {A = ℕ} 0 1 = cc in absurd (omega arith)
-column-at f [] (suc i) q = let z : _≡_ {A = ℕ} 0 1 = cc in absurd (omega arith)
-column-at f (x ∷ es) zero {e} q = let w : x ≡ e = cc in ap f w
-column-at f (x ∷ es) (suc i) q = column-at f es i q
-
-pub every-all : {A : Type 0} (P : A → Type 0) → ((x : A) → P x) → (xs : List A) → Every P xs
-unfolding Every
-every-all P f [] = tt
-every-all P f (x ∷ xs) = (f x, every-all P f xs)
 
 -- The names in an expression fit their fields.
 abbrev pub Fitting : Named → Type 0

@@ -2,7 +2,7 @@
 use Prim.Native.Nat.{ℕ, _≤_, _<_}
 use mathlib.Core.Bool.{true}
 use mathlib.Core.List.{List, [], _++_}
-use mathlib.Core.Path.{_≡_, refl, sym, _∙_, ap}
+use mathlib.Core.Path.{_≡_, sym, _∙_}
 use lib.ListN.{length}
 use borrow.Author.Tests.{lt-ltb, le-ltb}
 use Rattle.format.specs.Fields.{fieldAt}
@@ -11,12 +11,12 @@ use Rattle.format.specs.Limits.{levels}
 use Rattle.format.specs.Lookup.{gathered}
 use Rattle.format.specs.NodeLayout.{InstanceHead, captureAt, ruleAt, childAt, instanceHeadAt, nodeInstanceAt}
 use Rattle.format.specs.Parsed.{Parsed, done, refused, rowAt}
-use Rattle.format.specs.References.{Fault, unless, namedBy}
+use Rattle.format.specs.References.{unless, namedBy}
 use Rattle.format.specs.Tree.{Capture, Rule, Child, NodeInstance, Expr}
 use Rattle.tables.specs.Faults.{judgedAt, positionIn, present, nameFaults}
 use Rattle.tables.proofs.FaultsLaws.{judged-stop, judged-on}
 use Rattle.index.proofs.Again.{same-done, not-refused}
-use Rattle.index.proofs.PartsLaws.{capture-fields, rule-fields, child-fields, Parts, instance-parts}
+use Rattle.index.proofs.PartsLaws.{naming-id, naming-number, naming-all, capture-fields, rule-fields, child-fields, Parts, instance-parts}
 use Rattle.references.specs.FaultsIn.{captureFaultsIn, ruleFaultsIn, childFaultsIn, instanceFaultsIn}
 
 -- One name, found at position k of the keys.
@@ -76,36 +76,22 @@ module _ (s : List ℕ) (at : ℕ) where
           → done number next ≡ fieldAt s b 1 → y ≡ judgedAt (unless (present keys id number) 12 at) next
           → (before : List Child) (k : Child) (m : ℕ) → childAt s true before at ≡ done k m → y ≡ judgedAt (childFaultsIn keys k) m
       unfolding childFaultsIn
-      child-judged keys {number} {next} q h before k m e =
+      child-judged keys q h before k m e =
           let f = child-fields s at before e in
-          let g = same-done o (f .2) in
-          let u : done id b ≡ fieldAt s (f .0) 2 = p ∙ rw (g .1) in
-          let i = same-done u (f .3) in
-          let w : done number next ≡ fieldAt s (f .1) 1 = q ∙ rw (i .1) in
-          let n = same-done w (f .4) in
-          h ∙ rw (i .0, n .0, n .1, f .5)
+          let w = naming-all (f .0) o p q in
+          h ∙ rw (w .1, w .2, w .3, f .1)
 
       pub child-there : {B : Type 0} {w z : ℕ} → refused w z ≡ fieldAt s b 1
           → (before : List Child) (k : Child) (m : ℕ) → childAt s true before at ≡ done k m → B
-      child-there {B} {w} {z} q before k m e =
-          let f = child-fields s at before e in
-          let g = same-done o (f .2) in
-          let u : done id b ≡ fieldAt s (f .0) 2 = p ∙ rw (g .1) in
-          let i = same-done u (f .3) in
-          let v : refused w z ≡ fieldAt s (f .1) 1 = q ∙ rw (i .1) in
-          not-refused v (f .4)
+      child-there q before k m e = not-refused q (naming-number (child-fields s at before e .0) o p .0)
 
     pub child-named : {B : Type 0} {w z : ℕ} → refused w z ≡ fieldAt s a 2
         → (before : List Child) (k : Child) (m : ℕ) → childAt s true before at ≡ done k m → B
-    child-named {B} {w} {z} p before k m e =
-        let f = child-fields s at before e in
-        let g = same-done o (f .2) in
-        let v : refused w z ≡ fieldAt s (f .0) 2 = p ∙ rw (g .1) in
-        not-refused v (f .3)
+    child-named p before k m e = not-refused p (naming-id (child-fields s at before e .0) o .0)
 
   pub child-bit : {B : Type 0} {w z : ℕ} → refused w z ≡ fieldAt s at 1
       → (before : List Child) (k : Child) (m : ℕ) → childAt s true before at ≡ done k m → B
-  child-bit p before k m e = not-refused p (child-fields s at before e .2)
+  child-bit p before k m e = not-refused p (child-fields s at before e .0 .first-is)
 
   -- A node instance whose head the code read.
   module _ (keys kinds nodes : List ℕ) (kind : ℕ) {h : InstanceHead} {a : ℕ} (p : done h a ≡ instanceHeadAt s true 0 [] at)

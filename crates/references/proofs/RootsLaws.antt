@@ -1,20 +1,20 @@
 -- The fault of a root.
 use Prim.Native.Nat.{ℕ, _≤_, _<_, _^_}
-use mathlib.Core.Bool.{Bool, true, not, _&&_}
+use mathlib.Core.Bool.{true, not, _&&_}
 use mathlib.Core.Logic.{_⊎_, ⊎-elim}
 use mathlib.Core.List.{List, [], _∷_, map}
-use mathlib.Core.Path.{_≡_, refl, sym, _∙_, ap, subst}
+use mathlib.Core.Path.{_≡_, refl, sym, _∙_, ap}
 use native.Mathlib.Omega.{arith}
 use lib.Dec.{eqb, ltb}
 use lib.ListN.{length, getD, length-map}
 use borrow.Author.Tests.{eq-eqb, ne-eqb, ltb-false}
-use Rattle.numbers.proofs.Bools.{either, clash, and-left, and-right, and-both}
+use Rattle.numbers.proofs.Bools.{either, clash, and-left, and-right, and-both, same-truth}
 use Rattle.format.specs.Fields.{fieldAt, attentionAt}
 use Rattle.format.specs.FileLayout.{rootAt}
-use Rattle.format.specs.Lookup.{some, position, at, gathered, NodeEntry, nodeEntries, nodeNamed, nodePosition}
+use Rattle.format.specs.Lookup.{some, position, gathered, NodeEntry, nodeEntries, nodeNamed, nodePosition}
 use Rattle.format.specs.NodeLayout.{nodeInstanceAt}
 use Rattle.format.specs.Parsed.{Parsed, done, refused}
-use Rattle.format.specs.References.{Fault, unless, hasRule, rootFaults}
+use Rattle.format.specs.References.{unless, hasRule, rootFaults}
 use Rattle.format.specs.Rules.{Every, FieldsFit, NamesUnique}
 use Rattle.format.specs.Tree.{Root, NodeInstance, Chip}
 use Rattle.format.proofs.EveryLaws.{every-map}
@@ -24,15 +24,17 @@ use Rattle.format.proofs.GatheredLaws.{gathered-same}
 use Rattle.format.proofs.PositionsLaws.{every-at, at-inside, position-at, some-at, some-one, node-position}
 use Rattle.tables.specs.Faults.{judgedAt, positionIn}
 use Rattle.index.specs.Rows.{ReadAgain, entryPlace}
-use Rattle.index.specs.Columns.{nodeKeys}
-use Rattle.index.proofs.Again.{same-done, not-refused}
+use Rattle.tables.specs.Keys.{nodeKeys}
+use Rattle.index.proofs.Again.{not-refused}
+use Rattle.index.proofs.PartsLaws.{Naming, naming-id, naming-number, naming-all}
 use Rattle.links.specs.Links.{rulePlace}
 use Rattle.links.proofs.LinksLaws.{instance-rule-some}
 use Rattle.references.specs.declared.roots.RootEntry.{RootEntry}
 use Rattle.references.specs.FaultsIn.{ruled, rootFaultsIn}
 use Rattle.references.specs.RootIn.{rootPosition, rootOf}
-use Rattle.references.proofs.KeysLaws.{some-position, some-out, column-at}
-use Rattle.references.proofs.TablesLaws.{same-bool, node-position-in}
+use Rattle.tables.proofs.ColumnLaws.{column-at}
+use Rattle.references.proofs.KeysLaws.{some-position, some-out}
+use Rattle.references.proofs.TablesLaws.{node-position-in}
 
 module _ (nodes places : List ℕ) (attention id number : ℕ) {k : ℕ} (found : k ≡ positionIn nodes id number) (es : List NodeEntry) where
   pub root-absent : (p next : ℕ) → places ≡ map entryPlace es → length places ≤ k → refused 12 p ≡ judgedAt (unless (ruled nodes es attention id number) 12 p) next
@@ -65,7 +67,7 @@ module _ (nodes places : List ℕ) (attention id number : ℕ) {k : ℕ} (found 
 
 module _ (s : List ℕ) (p : ℕ) where
   pub root-fields : (before : List Root) {t : Root} {m : ℕ} → rootAt s true before p ≡ done t m
-      → (a b : ℕ) × (fieldAt s p 1 ≡ done (t .attention) a) × (fieldAt s a 2 ≡ done (t .id) b) × (fieldAt s b 1 ≡ done (t .number) m) × (p ≡ t .place)
+      → Naming s p (t .attention) (t .id) (t .number) m × (p ≡ t .place)
   unfolding rootAt attentionAt
   root-fields before {t} {m} e =
       let d = then-out _ _ e in
@@ -76,7 +78,7 @@ module _ (s : List ℕ) (p : ℕ) where
       let x : d .0 ≡ t .attention = ap (λ x. x .attention) (g .2) in
       let i : c .0 ≡ t .id = ap (λ x. x .id) (g .2) in
       let n : g .0 ≡ t .number = ap (λ x. x .number) (g .2) in
-      (d .1, c .1, o .0 ∙ rw x, c .2 ∙ rw i, g .1 ∙ rw n, ap (λ x. x .place) (g .2))
+      (record { id-at = d .1; number-at = c .1; first-is = o .0 ∙ rw x; id-is = c .2 ∙ rw i; number-is = g .1 ∙ rw n }, ap (λ x. x .place) (g .2))
 
   module _ {x a : ℕ} (o : done x a ≡ fieldAt s p 1) where
     module _ {id b : ℕ} (d : done id b ≡ fieldAt s a 2) where
@@ -84,49 +86,28 @@ module _ (s : List ℕ) (p : ℕ) where
           → done number next ≡ fieldAt s b 1 → y ≡ judgedAt (unless (ruled nodes es x id number) 12 p) next
           → (before : List Root) (t : Root) (m : ℕ) → rootAt s true before p ≡ done t m → y ≡ judgedAt (rootFaultsIn nodes es t) m
       unfolding rootFaultsIn
-      root-judged nodes es {number} {next} q h before t m e =
+      root-judged nodes es q h before t m e =
           let f = root-fields before e in
-          let g = same-done o (f .2) in
-          let u : done id b ≡ fieldAt s (f .0) 2 = d ∙ rw (g .1) in
-          let i = same-done u (f .3) in
-          let w : done number next ≡ fieldAt s (f .1) 1 = q ∙ rw (i .1) in
-          let n = same-done w (f .4) in
-          h ∙ rw (g .0, i .0, n .0, n .1, f .5)
+          let w = naming-all (f .0) o d q in
+          h ∙ rw (w .0, w .1, w .2, w .3, f .1)
 
       pub root-there : {B : Type 0} {w z : ℕ} → refused w z ≡ fieldAt s b 1
           → (before : List Root) (t : Root) (m : ℕ) → rootAt s true before p ≡ done t m → B
-      root-there {B} {w} {z} q before t m e =
-          let f = root-fields before e in
-          let g = same-done o (f .2) in
-          let u : done id b ≡ fieldAt s (f .0) 2 = d ∙ rw (g .1) in
-          let i = same-done u (f .3) in
-          let v : refused w z ≡ fieldAt s (f .1) 1 = q ∙ rw (i .1) in
-          not-refused v (f .4)
+      root-there q before t m e = not-refused q (naming-number (root-fields before e .0) o d .0)
 
     pub root-named : {B : Type 0} {w z : ℕ} → refused w z ≡ fieldAt s a 2
         → (before : List Root) (t : Root) (m : ℕ) → rootAt s true before p ≡ done t m → B
-    root-named {B} {w} {z} d before t m e =
-        let f = root-fields before e in
-        let g = same-done o (f .2) in
-        let v : refused w z ≡ fieldAt s (f .0) 2 = d ∙ rw (g .1) in
-        not-refused v (f .3)
+    root-named d before t m e = not-refused d (naming-id (root-fields before e .0) o .0)
 
   pub root-typed : {B : Type 0} {w z : ℕ} → refused w z ≡ fieldAt s p 1
       → (before : List Root) (t : Root) (m : ℕ) → rootAt s true before p ≡ done t m → B
-  root-typed o before t m e = not-refused o (root-fields before e .2)
+  root-typed o before t m e = not-refused o (root-fields before e .0 .first-is)
 
 -- A root that is read again, and the search for one.
 module _ (s : List ℕ) (p : ℕ) (before : List Root) (t : Root) (m : ℕ) (e : rootAt s true before p ≡ done t m) where
   module _ {x a : ℕ} (o : done x a ≡ fieldAt s p 1) {id b : ℕ} (d : done id b ≡ fieldAt s a 2) where
     pub root-again : {number next : ℕ} → done number next ≡ fieldAt s b 1 → _≡_ {A = RootEntry} (record { attention = x; id = id; number = number; next = next }) (rootOf t m)
-    root-again {number} {next} q =
-        let f = root-fields s p before e in
-        let g = same-done o (f .2) in
-        let u : done id b ≡ fieldAt s (f .0) 2 = d ∙ rw (g .1) in
-        let i = same-done u (f .3) in
-        let w : done number next ≡ fieldAt s (f .1) 1 = q ∙ rw (i .1) in
-        let n = same-done w (f .4) in
-        rw (g .0, i .0, n .0, n .1)
+    root-again q = let w = naming-all (root-fields s p before e .0) o d q in rw (w .0, w .1, w .2, w .3)
 
 module _ (nodes : List ℕ) (attention : ℕ) (t : Root) (m : ℕ) {r : RootEntry} (e : r ≡ rootOf t m) where
   pub root-found : r .attention ≡ attention → {k : ℕ} → k ≡ positionIn nodes (r .id) (r .number) → (ts : List Root) → k ≡ rootPosition nodes attention (t ∷ ts)
@@ -153,7 +134,7 @@ module _ (c : Chip) (fit : FieldsFit c) (unique : NamesUnique c) where
   unfolding ruled nodePosition
   ruled-same attention id number hi hn =
       rw (node-position-in c fit id number hi hn)
-      (same-bool _ _
+      (same-truth _ _
       (λ q. ⊎-elim
       (λ h.
       let d = position-at (nodeNamed id number) (nodeEntries c) (some-position (nodeNamed id number) (nodeEntries c) ∙ h) in

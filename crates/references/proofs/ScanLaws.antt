@@ -1,12 +1,9 @@
 -- Judging all node instances, one after another.
-use Prim.Native.Nat.{ℕ, zero, suc, _+_, _≤_, _<_}
+use Prim.Native.Nat.{ℕ, _+_, _≤_, _<_}
 use mathlib.Core.Bool.{true}
 use mathlib.Core.List.{List, [], _∷_, _++_, map}
 use mathlib.Core.Path.{_≡_, refl, sym, _∙_, ap, subst}
-use native.Mathlib.Numerals.{add-one}
-use native.Mathlib.Omega.{arith}
-use lib.ListN.{length, getD, drop, drop-of-length-le}
-use lib.Seq.{drop-cons}
+use lib.ListN.{length, getD, drop}
 use Rattle.format.specs.Lookup.{gathered, NodeEntry}
 use Rattle.format.specs.NodeLayout.{nodeInstanceAt}
 use Rattle.format.specs.Parsed.{Parsed, done, refused}
@@ -14,26 +11,10 @@ use Rattle.format.specs.Rules.{Every}
 use Rattle.format.specs.Tree.{NodeInstance}
 use Rattle.format.specs.References.{Fault}
 use Rattle.tables.specs.Faults.{judgedAt}
+use Rattle.tables.proofs.ColumnLaws.{drop-first, column-first, column-none}
 use Rattle.tables.proofs.FaultsLaws.{judged-none, judged-stop, judged-on}
-use Rattle.index.specs.Rows.{ReadAgain, wantedKind, entryPlace, entryWanted}
+use Rattle.index.specs.Rows.{ReadAgain, entryPlace, entryWanted}
 use Rattle.references.specs.FaultsIn.{instanceFaultsIn, entryFaultsIn}
-
--- What stands at a position, and what follows it.
-pub drop-first : (xs : List ℕ) (i : ℕ) {x : ℕ} {rest : List ℕ} → drop i xs ≡ x ∷ rest → (getD xs i 0 ≡ x) × (drop (i + 1) xs ≡ rest)
-drop-first [] zero e = let z : _≡_ {A = ℕ} 0 1 = cc in absurd (omega arith)
-drop-first [] (suc i) e = let z : _≡_ {A = ℕ} 0 1 = cc in absurd (omega arith)
-drop-first (y ∷ xs) zero {x} {rest} e = (let p : y ≡ x = cc in p, let q : xs ≡ rest = cc in q)
-drop-first (y ∷ xs) (suc i) e = let r = drop-first xs i e in (r .0, rw add-one (sym (ap (λ k. drop k xs) (add-one i)) ∙ r .1))
-
--- A column from a position on has a first element where the position is inside it.
-pub column-first : {E : Type 0} (f : E → ℕ) (xs : List ℕ) (i : ℕ) (ys : List E) → i < length xs → drop i xs ≡ map f ys
-    → (y : E) × (zs : List E) × (y ∷ zs ≡ ys) × (getD xs i 0 ≡ f y) × (drop (i + 1) xs ≡ map f zs)
-column-first f xs i [] h e = let z : getD xs i 0 ∷ drop (suc i) xs ≡ [] = sym (drop-cons xs i 0 h) ∙ e in let w : _≡_ {A = ℕ} 0 1 = cc in absurd (omega arith)
-column-first f xs i (y ∷ ys) h e = let r = drop-first xs i e in (y, ys, refl, r .0, r .1)
-
-pub column-none : {E : Type 0} (f : E → ℕ) (xs : List ℕ) (i : ℕ) (ys : List E) → length xs ≤ i → drop i xs ≡ map f ys → ys ≡ []
-column-none f xs i [] h e = refl
-column-none f xs i (y ∷ ys) h e = let z : [] ≡ f y ∷ map f ys = sym (drop-of-length-le xs h) ∙ e in let w : _≡_ {A = ℕ} 0 1 = cc in absurd (omega arith)
 
 -- Those before i have no fault, so that the faults of those from i on decide.
 pub record Scanning (s places wanted : List ℕ) (faults : NodeEntry → List Fault) (i : ℕ) : Type 0 where

@@ -1,33 +1,29 @@
 -- The faults by the tables of a chip are the faults of the chip.
 use Prim.Native.Nat.{ℕ, _^_, _≤_, _<_}
-use mathlib.Core.Bool.{Bool, true, false, _&&_}
-use mathlib.Core.List.{List, [], _∷_, _++_, map}
+use mathlib.Core.Bool.{true, _&&_}
+use mathlib.Core.List.{[], _∷_}
 use mathlib.Core.Logic.{_⊎_, ⊎-elim}
-use mathlib.Core.Path.{_≡_, refl, sym, _∙_, ap, subst}
+use mathlib.Core.Path.{_≡_, refl, sym, _∙_, subst}
 use native.Mathlib.Omega.{arith}
 use lib.Dec.{eqb, ltb}
 use lib.ListN.{length, getD, length-map, List·getD-eq-default}
 use borrow.Author.Tests.{ne-eqb, lt-ltb, ltb-true, ltb-false}
-use Rattle.numbers.proofs.Bools.{either, clash, and-left, and-right, and-both}
-use Rattle.format.specs.Lookup.{some, position, at, gathered, RegisterEntry, registerEntries, entriesOf, registerNamed, NodeEntry, nodeEntries, nodeEntriesOf, nodeNamed, registerPosition}
-use Rattle.format.specs.References.{Named, Fault, unless, namedBy, fits, hasRegister, hasNode, captureFaults, namedFaults, ruleFaults, childFaults, instanceFaults}
+use Rattle.numbers.proofs.Bools.{either, clash, and-left, and-right, and-both, same-truth}
+use Rattle.format.specs.Lookup.{some, position, at, registerEntries, entriesOf, registerNamed, NodeEntry, nodeEntries, nodeEntriesOf, nodeNamed, registerPosition}
+use Rattle.format.specs.References.{Named, namedBy, fits, hasRegister, hasNode, captureFaults, namedFaults, ruleFaults, childFaults, instanceFaults}
 use Rattle.format.specs.Rules.{Every, ExprFits, FieldsFit, NamesUnique, allCaptures, allRules, allChildren}
 use Rattle.format.specs.Tree.{Capture, Rule, Child, Chip}
-use Rattle.format.proofs.EveryLaws.{every-map, every-both, every-list-in, every-gathered-in, every-gathered-out}
-use Rattle.format.proofs.Grouping.{LayoutMeets}
+use Rattle.format.proofs.EveryLaws.{every-all, every-map, every-both, every-list-in, every-gathered-in, every-gathered-out}
 use Rattle.format.proofs.GatheredLaws.{gathered-same}
 use Rattle.format.proofs.PositionsLaws.{every-at, position-at, some-at, register-position}
 use Rattle.tables.specs.Tables.{keyOf}
 use Rattle.tables.specs.Faults.{positionIn, present, nameFaults}
+use Rattle.tables.specs.Keys.{registerKeys, nodeKeys}
+use Rattle.tables.proofs.ColumnLaws.{column-at}
 use Rattle.index.specs.Rows.{kindOf, wantedKind}
-use Rattle.index.specs.Columns.{registerKeys, registerKinds, nodeKeys}
+use Rattle.index.specs.Columns.{registerKinds}
 use Rattle.references.specs.FaultsIn.{captureFaultsIn, ruleFaultsIn, childFaultsIn, instanceFaultsIn}
-use Rattle.references.proofs.KeysLaws.{kind-same, position-keys, some-position, some-out, column-at, every-all, Fitting, names-fit}
-
-pub same-bool : (a b : Bool) → (a ≡ true → b ≡ true) → (b ≡ true → a ≡ true) → a ≡ b
-same-bool true b f g = sym (f refl)
-same-bool false true f g = clash (g refl) refl
-same-bool false false f g = refl
+use Rattle.references.proofs.KeysLaws.{kind-same, position-keys, some-position, some-out, Fitting, names-fit}
 
 module _ (c : Chip) (fit : FieldsFit c) where
   pub registers-fit : Every (λ e. (e .id < 256 ^ 3) × (e .flags < 256)) (registerEntries c)
@@ -80,7 +76,7 @@ module _ (c : Chip) (fit : FieldsFit c) where
           let k : getD (registerKinds c) (position (registerNamed id number) (registerEntries c)) 0 ≡ kindOf (e .type) (e .flags) = column-at (λ e. kindOf (e .type) (e .flags)) (registerEntries c) _ (d .1) in
           let f = every-at _ _ (registerEntries c) registers-fit (d .1) in
           rw (k, kind-same (e .type) (e .flags) type (f .1))
-          (same-bool _ _
+          (same-truth _ _
           (λ q. some-at _ _ (registerEntries c) (d .1) (and-both (d .2) q))
           (λ q.
           let o = some-out (λ e. registerNamed id number e && fits type e) (registerEntries c) q in
@@ -97,7 +93,7 @@ module _ (c : Chip) (fit : FieldsFit c) where
           let l : length (registerKinds c) ≤ position (registerNamed id number) (registerEntries c) = rw (length-map (registerEntries c) (λ e. kindOf (e .type) (e .flags))) h in
           let k : getD (registerKinds c) (position (registerNamed id number) (registerEntries c)) 0 ≡ 0 = List·getD-eq-default (registerKinds c) 0 l in
           rw (k, ne-eqb 0 (wantedKind type) (λ e. omega arith))
-          (same-bool _ _ (λ q. clash q refl)
+          (same-truth _ _ (λ q. clash q refl)
           (λ q.
           let o = some-out (λ e. registerNamed id number e && fits type e) (registerEntries c) q in
           let s = some-at (registerNamed id number) (o .0) (registerEntries c) (o .2) (and-left _ _ (o .3)) in

@@ -1,8 +1,8 @@
 -- The laws of the registers section.
-use Prim.Native.Nat.{ℕ, _+_, _-_, _≤_, _<_}
+use Prim.Native.Nat.{ℕ, _+_, _≤_, _<_}
 use mathlib.Core.Path.{_≡_, refl, sym, _∙_, ap}
 use mathlib.Core.Bool.{true}
-use mathlib.Core.List.{List, [], _∷_, map}
+use mathlib.Core.List.{List, [], map}
 use native.Mathlib.Omega.{arith}
 use borrow.Author.Tests.{ltb-true, eq-eqb, ne-eqb}
 use lib.ListN.{length}
@@ -108,13 +108,5 @@ register-size s before at {i} {k} {m} e =
     (h .count) [] (d .place) (j .is) c in
     let q : length (j .value) ≡ k = ap length o ∙ n in
     (omega arith, omega arith)
-
-pub register-nothing : registerTotal [] ≡ 0
-unfolding registerTotal
-register-nothing = refl
-
-pub register-another : (r : Register) (rs : List Register) → registerTotal (r ∷ rs) ≡ length (r .instances) + registerTotal rs
-unfolding registerTotal
-register-another r rs = refl
 
 pub ruleset register-laws = (address-four, address-eight, instance-told, register-told, head-then, head-stop)

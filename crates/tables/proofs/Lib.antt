@@ -1,3 +1,4 @@
 -- The laws of tables of numbers, and of faults in a row.
 pub mod TablesLaws
+pub mod ColumnLaws
 pub mod FaultsLaws

@@ -1,5 +1,5 @@
-use Prim.Native.Nat.{ℕ, _≤_, _<_}
-use mathlib.Core.Path.{_≡_, refl, sym, _∙_, ap}
+use Prim.Native.Nat.{ℕ, _≤_}
+use mathlib.Core.Path.{refl, sym, _∙_, ap}
 use native.Mathlib.Omega.{arith}
 use lib.ListN.{length, length-replicate}
 use lib.Seq.{length-take-le}
@@ -7,7 +7,8 @@ use borrow.Author.Needs.{needs}
 use Rattle.format.specs.declared.Checked
 use Rattle.format.specs.declared.Checked.{Checked}
 use Rattle.format.specs.Refusals.{checkedValues}
-use Rattle.isolation.proofs.PreparedLaws.{answer-refused, sized, tabled, kind-some}
+use Rattle.format.proofs.NumberedLaws.{kind-some}
+use Rattle.isolation.proofs.PreparedLaws.{answer-refused, sized, tabled}
 use Rattle.isolation.proofs.isolate.Statement.{statement}
 use Rattle.isolation.proofs.isolate.Tie as tie
 

@@ -2,8 +2,8 @@ use mathlib.Core.Path.{sym, _∙_, ap}
 use borrow.Author.Needs.{needs}
 use Rattle.fields.specs.Views.{byteParsed, numberParsed}
 use Rattle.index.proofs.Again.{not-refused}
-use Rattle.index.proofs.PartsLaws.{child-fields}
-use Rattle.links.proofs.ChildrenLaws.{child-id, child-number, child-link}
+use Rattle.index.proofs.PartsLaws.{child-fields, naming-id, naming-number}
+use Rattle.links.proofs.ChildrenLaws.{child-link}
 use Rattle.links.proofs.link_at.Statement.{statement}
 use Rattle.links.proofs.link_at.Tie as tie
 
@@ -16,16 +16,16 @@ returns c =
 returns-2 : tie.Need-returns-2
 returns-2 c =
     λ before k m e. not-refused (sym (ap byteParsed (c .enum-told .given .1)) ∙ c .before .before .byte-at2 .ensures)
-    (child-number _ _ (sym (ap byteParsed (c .before .before .before .before .before .before .before .before .b .given .1)) ∙ c .before .before .before .before .before .before .before .before .before .before .byte-at .ensures) before k m e
+    (naming-number (child-fields _ _ before e .0) (sym (ap byteParsed (c .before .before .before .before .before .before .before .before .b .given .1)) ∙ c .before .before .before .before .before .before .before .before .before .before .byte-at .ensures)
     (sym (ap numberParsed (c .before .before .before .before .i .given .1)) ∙ c .before .before .before .before .before .before .number-at .ensures) .0)
 
 returns-3 : tie.Need-returns-3
 returns-3 c =
     λ before k m e. not-refused (sym (ap numberParsed (c .enum-told2 .given .1)) ∙ c .before .before .number-at .ensures)
-    (child-id _ _ (sym (ap byteParsed (c .before .before .before .before .b .given .1)) ∙ c .before .before .before .before .before .before .byte-at .ensures) before k m e .1)
+    (naming-id (child-fields _ _ before e .0) (sym (ap byteParsed (c .before .before .before .before .b .given .1)) ∙ c .before .before .before .before .before .before .byte-at .ensures) .0)
 
 returns-4 : tie.Need-returns-4
-returns-4 c = λ before k m e. not-refused (sym (ap byteParsed (c .enum-told3 .given .1)) ∙ c .before .before .byte-at .ensures) (child-fields _ _ before e .2)
+returns-4 c = λ before k m e. not-refused (sym (ap byteParsed (c .enum-told3 .given .1)) ∙ c .before .before .byte-at .ensures) (child-fields _ _ before e .0 .first-is)
 
 pub link-at-spec : {M : Type 1} → statement M
 link-at-spec =

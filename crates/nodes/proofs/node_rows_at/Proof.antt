@@ -3,7 +3,7 @@ use Prim.Native.Nat.{ℕ, _≤_, _<_}
 use lib.Seq.{length-take-le}
 use mathlib.Core.Bool.{true}
 use mathlib.Core.List.{[]}
-use mathlib.Core.Path.{_≡_, refl, sym, _∙_, ap}
+use mathlib.Core.Path.{_≡_, sym, _∙_, ap}
 use native.Mathlib.Omega.{arith}
 use borrow.Author.Needs.{needs}
 use lib.ListN.{length, length-set, length-replicate}
@@ -12,7 +12,8 @@ use Rattle.format.specs.NodeLayout.{nodeTotal, nodeAt}
 use Rattle.nodes.specs.Nodes.{nodeId}
 use Rattle.fields.specs.Views.{elementParsed}
 use Rattle.fields.proofs.RowLaws.{Elements, elements-begin, elements-next, elements-last, elements-refused}
-use Rattle.nodes.proofs.NodeLaws.{node-size, node-nothing, node-another}
+use Rattle.format.proofs.NodesAccepted.{nodes-none, nodes-more}
+use Rattle.nodes.proofs.NodeLaws.{node-size}
 use Rattle.nodes.proofs.node_rows_at.Statement.{statement}
 use Rattle.nodes.proofs.node_rows_at.Tie as tie
 
@@ -24,7 +25,7 @@ abbrev μ-loop : tie.MeasureT-loop
 μ-loop s at n ids₀ known₀ total₀ left₀ place₀ ids known total left place = left
 
 loop-holds : tie.Need-loop-holds Inv-loop μ-loop
-loop-holds c = (length-replicate {A = ℕ} 256 0, omega arith, omega arith, elements-begin _ _ _ _ node-nothing node-another _ _ _)
+loop-holds c = (length-replicate {A = ℕ} 256 0, omega arith, omega arith, elements-begin _ _ _ _ nodes-none nodes-more _ _ _)
 
 array-share-prefix-ids : tie.Need-array-share-prefix-ids Inv-loop μ-loop
 array-share-prefix-ids c = omega arith
@@ -64,7 +65,7 @@ returns : tie.Need-returns Inv-loop μ-loop
 returns c =
     let l = c .before .before .before .before .before .before .loop in
     let x = l .inv .3 in
-    elements-refused _ _ _ _ node-nothing node-another x (sym (ap elementParsed (c .before .e2 .given .1)) ∙ c .before .before .before .node-at .ensures (x .before) (x .told) (x .counted)) (c .before .before .before .before .before .loop-test .taken)
+    elements-refused _ _ _ _ nodes-none nodes-more x (sym (ap elementParsed (c .before .e2 .given .1)) ∙ c .before .before .before .node-at .ensures (x .before) (x .told) (x .counted)) (c .before .before .before .before .before .loop-test .taken)
 
 add-known : tie.Need-add-known Inv-loop μ-loop
 add-known c = omega arith
@@ -84,11 +85,11 @@ loop-again c =
       length-set (l .ids) (l .known) (c .before .e .given .0 .0) ∙ l .inv .0,
       omega (arith, h .0),
       omega (arith, h .1, x .counted),
-      elements-next _ _ _ _ node-nothing node-another x (sym (ap elementParsed (c .before .e .given .1)) ∙ c .before .before .before .node-at .ensures (x .before) (x .told) (x .counted)) (c .before .before .before .before .before .loop-test .taken) k,
+      elements-next _ _ _ _ nodes-none nodes-more x (sym (ap elementParsed (c .before .e .given .1)) ∙ c .before .before .before .node-at .ensures (x .before) (x .told) (x .counted)) (c .before .before .before .before .before .loop-test .taken) k,
     )
 
 returns-2 : tie.Need-returns-2 Inv-loop μ-loop
-returns-2 c = elements-last _ _ _ _ node-nothing node-another (c .before .loop .inv .3) (c .loop-test .left)
+returns-2 c = elements-last _ _ _ _ nodes-none nodes-more (c .before .loop .inv .3) (c .loop-test .left)
 
 pub node-rows-at-spec : {M : Type 1} → statement M
 node-rows-at-spec =

@@ -1,18 +1,18 @@
 -- The invariant: with the rows of the nodes to come, the tables are what they are to be, and k is how many instances stood in those before.
-use Prim.Native.Nat.{ℕ, _≤_, _<_}
+use Prim.Native.Nat.{_≤_, _<_}
 use mathlib.Core.Bool.{true}
-use mathlib.Core.List.{List, [], map}
+use mathlib.Core.List.{[], map}
 use mathlib.Core.Path.{_≡_, refl, sym, _∙_, ap}
 use native.Mathlib.Omega.{arith}
 use borrow.Author.Needs.{needs}
-use lib.ListN.{length}
 use Rattle.format.specs.Lookup.{nodeEntriesOf}
-use Rattle.format.specs.Parsed.{done, rowAt}
+use Rattle.format.specs.Parsed.{rowAt}
 use Rattle.format.specs.NodeLayout.{nodeTotal, nodeAt}
-use Rattle.nodes.proofs.NodeLaws.{node-nothing}
+use Rattle.format.proofs.NodesAccepted.{nodes-none}
 use Rattle.index.specs.Rows.{filled, nodeRow}
 use Rattle.index.proofs.FillingLaws.{Sized, row-first, Filling, filling-begin, filling-next, filling-end}
-use Rattle.index.proofs.ElementLaws.{map-gathered, node-filled, node-room}
+use Rattle.format.proofs.GatheredLaws.{map-gathered}
+use Rattle.index.proofs.ElementLaws.{node-filled, node-room}
 use Rattle.index.proofs.node_rows.fill_rows.Statement.{statement}
 use Rattle.index.proofs.node_rows.fill_rows.Tie as tie
 
@@ -26,7 +26,7 @@ abbrev μ-loop : tie.MeasureT-loop
 μ-loop s at n keys₀ kinds₀ places₀ left₀ place₀ k₀ keys kinds places left place k = left
 
 loop-holds : tie.Need-loop-holds Inv-loop μ-loop
-loop-holds c = (record { keys = refl; kinds = refl; places = refl }, filling-begin _ _ _ _ _ _ _ (sym node-nothing))
+loop-holds c = (record { keys = refl; kinds = refl; places = refl }, filling-begin _ _ _ _ _ _ _ (sym nodes-none))
 
 same-length : tie.Need-same-length Inv-loop μ-loop
 same-length c = c .before .before .loop .inv .0 .keys

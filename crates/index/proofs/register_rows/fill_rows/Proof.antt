@@ -1,18 +1,18 @@
 -- The invariant: with the rows of the registers to come, the tables are what they are to be, and k is how many instances stood in those before.
-use Prim.Native.Nat.{ℕ, _≤_, _<_}
+use Prim.Native.Nat.{_≤_, _<_}
 use mathlib.Core.Bool.{true}
-use mathlib.Core.List.{List, [], map}
+use mathlib.Core.List.{[], map}
 use mathlib.Core.Path.{_≡_, refl, sym, _∙_, ap}
 use native.Mathlib.Omega.{arith}
 use borrow.Author.Needs.{needs}
-use lib.ListN.{length}
 use Rattle.format.specs.Lookup.{entriesOf}
-use Rattle.format.specs.Parsed.{done, rowAt}
+use Rattle.format.specs.Parsed.{rowAt}
 use Rattle.format.specs.RegisterLayout.{registerTotal, registerAt}
-use Rattle.registers.proofs.RegisterLaws.{register-nothing}
+use Rattle.format.proofs.RegistersAccepted.{registers-none}
 use Rattle.index.specs.Rows.{filled, registerRow}
 use Rattle.index.proofs.FillingLaws.{Sized, row-first, Filling, filling-begin, filling-next, filling-end}
-use Rattle.index.proofs.ElementLaws.{map-gathered, register-filled, register-room}
+use Rattle.format.proofs.GatheredLaws.{map-gathered}
+use Rattle.index.proofs.ElementLaws.{register-filled, register-room}
 use Rattle.index.proofs.register_rows.fill_rows.Statement.{statement}
 use Rattle.index.proofs.register_rows.fill_rows.Tie as tie
 
@@ -26,7 +26,7 @@ abbrev μ-loop : tie.MeasureT-loop
 μ-loop s at n keys₀ kinds₀ places₀ left₀ place₀ k₀ keys kinds places left place k = left
 
 loop-holds : tie.Need-loop-holds Inv-loop μ-loop
-loop-holds c = (record { keys = refl; kinds = refl; places = refl }, filling-begin _ _ _ _ _ _ _ (sym register-nothing))
+loop-holds c = (record { keys = refl; kinds = refl; places = refl }, filling-begin _ _ _ _ _ _ _ (sym registers-none))
 
 same-length : tie.Need-same-length Inv-loop μ-loop
 same-length c = c .before .before .loop .inv .0 .keys
