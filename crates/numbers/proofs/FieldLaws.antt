@@ -1,5 +1,5 @@
 -- The laws of a number at a place.
-use Prim.Native.Nat.{ℕ, _+_, _-_, _^_, _≤_, _<_}
+use Prim.Native.Nat.{ℕ, suc, _+_, _*_, _-_, _^_, _≤_, _<_}
 use mathlib.Core.Path.{_≡_}
 use mathlib.Core.List.{List}
 use mathlib.Core.Bool.{true, false}
@@ -7,7 +7,7 @@ use native.Mathlib.Nat.{add-sub-cancel-left, lt-of-lt-of-le, pow-le-pow-right}
 use native.Mathlib.Omega.{arith}
 use borrow.Author.Tests.{le-leb, lt-leb}
 use lib.ListN.{length, take, drop, getD, length-take}
-use lib.Seq.{drop-cons}
+use lib.Seq.{drop-cons, drop-drop}
 use lib.Dec.{lit<, lit≤}
 use Rattle.numbers.specs.declared.Width.{Width}
 use Rattle.numbers.specs.declared.Width.the-variants.{Two, Three, Four, Eight}
@@ -39,6 +39,16 @@ field-lt s at n h =
 pub field-byte : (s : List ℕ) (at : ℕ) → at < length s → field s at 1 ≡ getD s at 0
 unfolding field bigEndian
 field-byte s at h = rw (drop-cons s at 0 h) (omega arith)
+
+-- A field of two bytes.
+pub field-two : (s : List ℕ) (at : ℕ) → at + 2 ≤ length s → field s at 2 ≡ getD s at 0 * 256 + getD s (suc at) 0
+unfolding field bigEndian
+field-two s at h = rw (drop-cons s at 0 (omega arith), drop-cons s (suc at) 0 (omega arith)) (omega arith)
+
+-- A field of what follows a place.
+pub field-drop : (s : List ℕ) (at k n : ℕ) → field (drop at s) k n ≡ field s (at + k) n
+unfolding field
+field-drop s at k n = rw drop-drop
 
 pub size-le : (w : Width) → sizeOf w ≤ 8
 size-le Two = lit≤ tt

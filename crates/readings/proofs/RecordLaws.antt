@@ -14,7 +14,7 @@ use Rattle.numbers.specs.declared.NumberRead
 use Rattle.numbers.specs.declared.NumberRead.{NumberRead}
 use Rattle.numbers.specs.Field.{field, numberAt}
 use Rattle.numbers.proofs.Bools.{and-left, and-right}
-use Rattle.numbers.proofs.FieldLaws.{present-yes, field-byte}
+use Rattle.numbers.proofs.FieldLaws.{present-yes, field-byte, field-drop}
 use Rattle.tables.specs.Tables.{written}
 use Rattle.tables.proofs.TablesLaws.{written-front}
 use Rattle.readings.specs.ReadingsFile.{readByte, valueIn, recordFits, recordsFit, fileFits, eachRecord, decodes, lentAfter}
@@ -32,11 +32,6 @@ unfolding numberAt
 number-not-cut s at n h e =
     let d : NumberRead.Cut ≡ NumberRead.Number (field s at n) (at + n) = e ∙ simp (present-yes s at n h) in
     let z : _≡_ {A = ℕ} 0 1 = cc in absurd (omega arith)
-
--- A field of what follows a place.
-field-drop : (s : List ℕ) (at k n : ℕ) → field (drop at s) k n ≡ field s (at + k) n
-unfolding field
-field-drop s at k n = rw drop-drop
 
 -- The read byte of the record at a place.
 byte-at-place : (s : List ℕ) (at : ℕ) → at + 16 ≤ length s → getD s (at + 4) 0 ≡ readByte (drop at s)

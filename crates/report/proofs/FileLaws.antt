@@ -20,7 +20,7 @@ use Rattle.format.specs.Refusals.{refusedWith}
 use Rattle.format.specs.Verdict.{verdict, check}
 use Rattle.format.proofs.Acceptance.{acceptance, read-to-end}
 use Rattle.tables.specs.Tables.{keyOf}
-use Rattle.index.specs.Columns.{registerKeys}
+use Rattle.tables.specs.Keys.{registerKeys}
 use Rattle.readings.specs.ReadingsFile.{readByte, valueIn, fileFits, wordsOf, readOf, decodes, lentAfter}
 use Rattle.readings.proofs.RecordLaws.{each-length}
 use Rattle.isolation.specs.Readings.{readingsFit}

@@ -6,26 +6,15 @@ use native.Mathlib.Nat.{add-zero}
 use native.Mathlib.Omega.{arith}
 use lib.Dec.{lit<, lit≤}
 use lib.ListN.{length, drop, getD, length-append}
-use lib.Seq.{drop-cons, drop-drop}
-use Rattle.numbers.specs.BigEndian.{bigEndian}
+use lib.Seq.{drop-drop}
 use Rattle.numbers.specs.Field.{field}
 use Rattle.numbers.proofs.BigEndianLaws.{Bytes, bytes-drop}
-use Rattle.numbers.proofs.FieldLaws.{field-lt, field-byte}
+use Rattle.numbers.proofs.FieldLaws.{field-lt, field-byte, field-two, field-drop}
 use Rattle.isolation.specs.Records.{recordSize}
 use Rattle.tables.specs.Tables.{written}
 use Rattle.report.specs.Text.{Put, decimal, named, typeWord, nodeWord, instWord, bitWord, stepsWord, refusedWord, placeWord, lineEnd, bitLine, recordLine, recordLines, stepsLine, refusedLine}
 use Rattle.report.proofs.DecimalLaws.{decimal-short, decimal-few}
 use Rattle.report.proofs.TextLaws.{put-then, put-as}
-
--- A field of what follows a place.
-field-drop : (s : List ℕ) (at k n : ℕ) → field (drop at s) k n ≡ field s (at + k) n
-unfolding field
-field-drop s at k n = rw drop-drop
-
--- A field of two bytes.
-field-two : (s : List ℕ) (at : ℕ) → at + 2 ≤ length s → field s at 2 ≡ getD s at 0 * 256 + getD s (suc at) 0
-unfolding field bigEndian
-field-two s at h = rw (drop-cons s at 0 (omega arith), drop-cons s (suc at) 0 (omega arith)) (omega arith)
 
 -- The line of the record at a place, by its bytes.
 pub line-at : (s : List ℕ) (at : ℕ) → at + 8 ≤ length s

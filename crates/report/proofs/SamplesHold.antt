@@ -26,7 +26,7 @@ use Rattle.numbers.specs.BigEndian.{bigEndian, bytesOf}
 use Rattle.numbers.specs.Bits.{bitOf, wordOf, notBits, andBits, orBits, leftBits, rightBits}
 use Rattle.numbers.specs.Field.{present, field}
 use lib.ListN.{replicate}
-use Rattle.index.specs.Columns.{registerKeys}
+use Rattle.tables.specs.Keys.{registerKeys}
 use Rattle.tables.specs.Tables.{keyOf}
 use Rattle.readings.specs.ReadingsFile.{readByte, valueIn, recordFits, recordsFit, fileFits, eachRecord}
 use Rattle.isolation.specs.Samples as calls

@@ -18,7 +18,7 @@ use Rattle.format.specs.Parsed.{Parsed, done, refused, require}
 use Rattle.format.specs.Tree.{Root, Chip}
 use Rattle.format.specs.Verdict.{verdict}
 use Rattle.tables.specs.Tables.{keyOf}
-use Rattle.index.specs.Columns.{registerKeys}
+use Rattle.tables.specs.Keys.{registerKeys}
 use Rattle.readings.specs.ReadingsFile.{fileFits}
 use Rattle.isolation.specs.ChipGraph.{rootFor}
 use Rattle.isolation.specs.Outcome.{refusedOutcome}

@@ -7,7 +7,7 @@ use Rattle.format.specs.Fields.{knownAttention}
 use Rattle.format.specs.Parsed.{Parsed, done, refused}
 use Rattle.format.specs.Tree.{Root, Chip}
 use Rattle.format.specs.Verdict.{verdict}
-use Rattle.index.specs.Columns.{registerKeys}
+use Rattle.tables.specs.Keys.{registerKeys}
 use Rattle.readings.specs.ReadingsFile.{fileFits, wordsOf, readOf}
 use Rattle.isolation.specs.ChipGraph.{rootFor}
 use Rattle.isolation.specs.Outcome.{Outcome, refusedOutcome, fromRoot}

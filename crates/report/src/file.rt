@@ -11,7 +11,7 @@ ghost use mathlib.Core.Path.{_≡_};
 ghost use Rattle.format.specs.Parsed.{done};
 ghost use Rattle.format.specs.Tree.{Chip};
 ghost use Rattle.format.specs.Verdict.{verdict};
-ghost use Rattle.index.specs.Columns.{registerKeys};
+ghost use Rattle.tables.specs.Keys.{registerKeys};
 ghost use Rattle.isolation.specs.Outcome.{outcomeOf};
 ghost use Rattle.report.specs.Report.{isolateFile};
 

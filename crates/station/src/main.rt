@@ -4,7 +4,7 @@ use libc::STDOUT_FILENO;
 use report::report;
 ghost use Rattle.io.specs.Counts.{Counts};
 
-// The first bytes of a file, as many as there are places for them. A file that cannot be opened counts as empty.
+// The first bytes of a file, as many as there are places for them. A file that cannot be opened counts as empty, and so does one that cannot be read to its end.
 fn read_file(path: &[u8], bytes: &mut [u8]) -> usize
     ensures { λ r. ⌜ Counts r (now (bytes .exit)) ⌝ }
 {
@@ -13,7 +13,12 @@ fn read_file(path: &[u8], bytes: &mut [u8]) -> usize
         return 0;
     }
     let n = io::read_full(fd, bytes);
+    let mut next = [0u8; 1];
+    let got = libc::read(fd, &mut next);
     libc::close(fd);
+    if got < 0 {
+        return 0;
+    }
     n
 }
 

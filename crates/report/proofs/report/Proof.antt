@@ -4,7 +4,7 @@ use native.Mathlib.Omega.{arith}
 use lib.ListN.{length-replicate}
 use borrow.Author.Needs.{needs}
 use Rattle.isolation.specs.Outcome.{outcomeOf}
-use Rattle.isolation.proofs.PreparedLaws.{kind-some}
+use Rattle.format.proofs.NumberedLaws.{kind-some}
 use Rattle.report.specs.Text.{refusedLine}
 use Rattle.report.specs.Report.{stationList, report}
 use Rattle.report.proofs.FileLaws.{done-room}

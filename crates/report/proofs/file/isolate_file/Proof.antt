@@ -7,7 +7,8 @@ use borrow.Author.Needs.{needs}
 use Rattle.format.specs.declared.Checked
 use Rattle.format.specs.declared.Checked.{Checked}
 use Rattle.format.specs.Refusals.{checkedValues}
-use Rattle.isolation.proofs.PreparedLaws.{sized, tabled, kind-some}
+use Rattle.format.proofs.NumberedLaws.{kind-some}
+use Rattle.isolation.proofs.PreparedLaws.{sized, tabled}
 use Rattle.report.proofs.FileLaws.{answer-file}
 use Rattle.report.proofs.file.isolate_file.Statement.{statement}
 use Rattle.report.proofs.file.isolate_file.Tie as tie
