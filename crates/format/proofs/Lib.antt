@@ -18,4 +18,5 @@ pub mod PositionsLaws
 pub mod PlacesLaws
 pub mod NumberedLaws
 pub mod MeaningLaws
+pub mod LevelLaws
 mod SamplesHold
