@@ -4,4 +4,5 @@ pub mod FirstLaws
 pub mod CycleLaws
 pub mod TableLaws
 pub mod BackLaws
+pub mod RankLaws
 pub mod Samples

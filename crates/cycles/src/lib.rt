@@ -1,7 +1,7 @@
 // Cycles of a table of children: 64 places for each node instance, each with the position of the child of a bit. A value that is no position, or a place beyond the table, is no child.
 ghost use mathlib.Core.Path.{_≡_};
-ghost use mathlib.Core.Bool.{_&&_};
-ghost use Prim.Native.Nat.{_*_, _<_, _≤_};
+ghost use mathlib.Core.Bool.{true, false, _&&_};
+ghost use Prim.Native.Nat.{ℕ, _*_, _<_, _≤_};
 ghost use lib.Dec.{eqb};
 ghost use lib.ListN.{length, getD};
 ghost use Rattle.graph.specs.Below.{any};
@@ -9,6 +9,7 @@ ghost use Rattle.graph.specs.Chains.{names};
 ghost use Rattle.walk.specs.TableGraph.{childAt};
 ghost use Rattle.cycles.specs.Cycle.{lookedAt, tableEdge, inCycle, firstBelow, firstCycle};
 ghost use Rattle.cycles.specs.Back.{namesBack, namedBack, marked};
+ghost use Rattle.cycles.specs.Ranks.{risesAt, falling};
 
 // How many of n node instances are looked at.
 fn looked_at(n: usize) -> usize
@@ -130,11 +131,140 @@ fn first_marked(m: &[u8], child: &[u16], n: usize) -> usize
     n
 }
 
-// The first instance that lies on a cycle, or how many are looked at. It looks at each of the n * 64 places once, and takes one walk for each instance, up to the answer, that is its own child or that of a later one: no walk where every child stands after its parents, and never more than n.
+// The place k holds a child whose rank is not below that of k's instance. It looks at one place and two ranks.
+fn rises(rank: &[usize], child: &[u16], n: usize, k: usize) -> bool
+    requires { ⌜ (n ≤ 256) × (n ≤ length (now rank)) × (k < n * 64) ⌝ }
+    ensures { λ r. ⌜ r ≡ risesAt (now (rank .entry)) n (now (child .entry)) k ⌝ }
+{
+    let c = walk::child_at(n, child, k);
+    if n <= c {
+        return false;
+    }
+    rank[k / 64] <= rank[c]
+}
+
+// Every child's rank is below its parent's. It looks at each of the n * 64 places once, up to the first whose child's is not.
+fn falls(rank: &[usize], child: &[u16], n: usize) -> bool
+    requires { ⌜ (n ≤ 256) × (n ≤ length (now rank)) ⌝ }
+    ensures { λ r. ⌜ r ≡ falling (now (rank .entry)) n (now (child .entry)) ⌝ }
+{
+    let places = n * 64;
+    let mut k = 0;
+    while k < places {
+        if rises(rank, child, n, k) {
+            return false;
+        }
+        k += 1;
+    }
+    true
+}
+
+// Each of the first n instances has a rank above those of all later ones.
+fn rank_by_order(rank: &mut [usize], n: usize)
+    requires { ⌜ n ≤ length (now rank) ⌝ }
+{
+    let mut i = 0;
+    while i < n {
+        rank[i] = n - i;
+        i += 1;
+    }
+}
+
+// The search for ranks keeps a number for each instance: 512 until it comes there, then the instance that it came from, and at last the rank, which is above 512. No contract says that the ranks fall: `falls` looks, and ranks that do not only cost time.
+
+// c is an instance to which the search has not come.
+fn unmet(rank: &[usize], n: usize, c: usize) -> bool
+    requires { ⌜ n ≤ length (now rank) ⌝ }
+{
+    if n <= c {
+        return false;
+    }
+    rank[c] == 512
+}
+
+// The first child of i to which the search has not come, or n. It looks at the 64 places of i once, up to that child's.
+fn unmet_child(rank: &[usize], child: &[u16], n: usize, i: usize) -> usize
+    requires { ⌜ (n ≤ 256) × (n ≤ length (now rank)) × (i < n) ⌝ }
+{
+    let mut b = 0;
+    while b < 64 {
+        let c = walk::child_at(n, child, i * 64 + b);
+        if unmet(rank, n, c) {
+            return c;
+        }
+        b += 1;
+    }
+    n
+}
+
+// The turn t of the search, at i. The next one is at a child of i to which the search has not come; where there is none, i has the rank t, and the next turn is where the search came from. An answer of n or more ends it.
+fn turn(rank: &mut [usize], child: &[u16], n: usize, i: usize, t: usize) -> usize
+    requires { ⌜ (n ≤ 256) × (n ≤ length (now rank)) × (i < n) ⌝ }
+{
+    let c = unmet_child(rank, child, n, i);
+    if n <= c {
+        let back = rank[i];
+        rank[i] = t;
+        return back;
+    }
+    rank[c] = i;
+    c
+}
+
+// The search from s, if it has not come there, with turns from first on; the answer is the turn after its last. The turns of all searches are at most 512, and where there is no cycle at most two for each instance: one as a search comes to it, one as it comes back.
+fn rank_from(rank: &mut [usize], child: &[u16], n: usize, s: usize, first: usize) -> usize
+    requires { ⌜ (n ≤ 256) × (n ≤ length (now rank)) × (s < n) ⌝ }
+{
+    if rank[s] != 512 {
+        return first;
+    }
+    let mut t = first;
+    let mut i = s;
+    while t <= 1024 {
+        if n <= i {
+            return t;
+        }
+        i = turn(rank, child, n, i, t);
+        t += 1;
+    }
+    t
+}
+
+// The search from each instance in turn. It takes at most 512 turns, each of which looks at up to 64 places, and where there is no cycle at most 2 * n.
+fn rank_all(rank: &mut [usize], child: &[u16], n: usize)
+    requires { ⌜ (n ≤ 256) × (n ≤ length (now rank)) ⌝ }
+{
+    let mut t = 513;
+    let mut s = 0;
+    while s < n {
+        t = rank_from(rank, child, n, s, t);
+        s += 1;
+    }
+}
+
+// Ranks show that no instance lies on a cycle: those of the instances' order, or else those that the search finds. It looks at each of the n * 64 places at most twice, and the search at up to 64 in each of its turns.
+fn acyclic(child: &[u16], n: usize) -> bool
+    requires { ⌜ n ≤ 256 ⌝ }
+    ensures { λ r. ⌜ (r ≡ true → (i : ℕ) → inCycle n (now (child .entry)) i ≡ false) ⌝ }
+{
+    let mut rank = [0usize; 256];
+    rank_by_order(&mut rank, n);
+    if falls(&rank, child, n) {
+        return true;
+    }
+    let mut found = [512usize; 256];
+    rank_all(&mut found, child, n);
+    falls(&found, child, n)
+}
+
+// The first instance that lies on a cycle, or how many are looked at. Where ranks show that there is no cycle it takes no walk, and looks at n * 256 places at most. Where they do not it looks at each of the n * 64 places once more, and takes one walk for each instance, up to the answer, that is its own child or that of a later one.
 pub fn first_cycle(child: &[u16], n: usize) -> usize
     ensures { λ r. ⌜ r ≡ firstCycle (now (child .entry)) n ⌝ }
 {
     let few = looked_at(n);
+    if acyclic(child, few) {
+        return few;
+    }
     let mut m = [0u8; 256];
     mark_all(&mut m, child, few);
     first_marked(&m, child, few)
