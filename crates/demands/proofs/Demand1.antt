@@ -9,7 +9,7 @@ use borrow.Author.Tests.{leb-true}
 use Rattle.format.specs.Lookup.{nodePosition}
 use Rattle.isolation.specs.ChipGraph.{chipGraph}
 use Rattle.isolation.specs.Outcome.{isolate}
-use Rattle.isolation.specs.Records.{recordSize, listing, recordsOf}
+use Rattle.listing.specs.Records.{recordSize, listing, recordsOf}
 use Rattle.isolation.proofs.GraphsLaws.{listing-length}
 use Rattle.isolation.proofs.OutcomeLaws.{Refused, Succeeds, succeeds-in, outcome-cases}
 use Rattle.demands.specs.Demand1.{RefusedCall, Demand1}

@@ -22,7 +22,7 @@ use Rattle.format.proofs.EveryLaws.{or-false-left, or-false-right}
 use Rattle.isolation.specs.ChipGraph.{rootFor, chipGraph}
 use Rattle.isolation.specs.Outcome.{doneOutcome, reachedUnread, isolate}
 use Rattle.isolation.specs.Readings.{readingsFit}
-use Rattle.isolation.specs.Records.{recordSize, listing, recordsOf}
+use Rattle.listing.specs.Records.{recordSize, listing, recordsOf}
 use Rattle.isolation.proofs.ChipLaws.{first-out, first-key, root-inside, chip-sound}
 use Rattle.isolation.proofs.OutcomeLaws.{Succeeds, succeeds-in, succeeds-out}
 use Rattle.demands.specs.Demand3.{Accepted, RootAt, ReadingsFit, Possible, Answer, Demand3}

@@ -10,9 +10,9 @@ use Rattle.numbers.proofs.Bools.{and-left, and-right}
 use Rattle.graph.specs.Below.{count}
 use Rattle.graph.specs.Chains.{Graph, Sound, Link, ReachedByChains, Listed, reachedFrom, listed, below, kept, listedOf, reachedCount}
 use Rattle.graph.proofs.ChainsLaws.{reached-by-chains, listed-words}
-use Rattle.isolation.specs.Records.{listing}
+use Rattle.listing.specs.Records.{listing}
 use Rattle.isolation.proofs.GraphsLaws.{reached-below}
-use Rattle.isolation.proofs.RowsLaws.{kept-append}
+use Rattle.listing.proofs.RowsLaws.{kept-append}
 use Rattle.demands.specs.Rows.{In, InOrder, Different}
 use Rattle.demands.specs.Demand3.{Before, NamedBits}
 use Rattle.demands.proofs.RowsLaws.{in-gathered-out, in-gathered-in, in-map-out, in-map-in, in-kept-out, in-kept-in, in-below-in, order-map, order-unique, order-list, order-gathered, order-kept, order-below}

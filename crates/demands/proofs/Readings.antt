@@ -26,7 +26,7 @@ use Rattle.format.proofs.PositionsLaws.{at-inside, some-one}
 use Rattle.isolation.specs.ChipGraph.{rootFor, ruleUnread, isNone, ruleActive, entryActive, chipGraph}
 use Rattle.isolation.specs.Outcome.{Outcome, refusedOutcome, doneOutcome, entryUnread, reachedUnread, written, allRead, fromRoot, isolateIn, isolate}
 use Rattle.isolation.specs.Readings.{readingsFit, hasValue, wordFor, unreadFaults}
-use Rattle.isolation.specs.Records.{recordSize, listing, recordsOf}
+use Rattle.listing.specs.Records.{recordSize, listing, recordsOf}
 use Rattle.isolation.proofs.ChipLaws.{chip-sound}
 use Rattle.isolation.proofs.GraphsLaws.{Agree, every-below, reached-below, reached-same, count-reached-same, listing-same, listing-length}
 use Rattle.demands.specs.Rows.{In}

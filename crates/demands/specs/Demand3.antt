@@ -13,7 +13,7 @@ use Rattle.format.specs.Rules.{Every, Meets}
 use Rattle.format.specs.Tree.{Rule, Root, Chip}
 use Rattle.isolation.specs.ChipGraph.{chipGraph}
 use Rattle.isolation.specs.Outcome.{Outcome, isolate}
-use Rattle.isolation.specs.Records.{recordsOf}
+use Rattle.listing.specs.Records.{recordsOf}
 use Rattle.demands.specs.Rows.{In, InOrder, Different}
 
 -- "Accepted is meant as in demand 2, by the rules and not by the checker's answer": the file is the encoding of a tree, with its places, that meets the rules.

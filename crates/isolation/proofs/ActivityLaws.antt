@@ -28,7 +28,7 @@ use Rattle.rules.specs.declared.Value.{Value}
 use Rattle.rules.specs.Value.{faulty, firstPlace, valued}
 use Rattle.isolation.specs.declared.Activity.{Activity}
 use Rattle.isolation.specs.ChipGraph.{firstOf, ruleFor}
-use Rattle.isolation.specs.Rows.{isDone}
+use Rattle.listing.specs.Rows.{isDone}
 use Rattle.isolation.specs.Activity.{unreadBy, exprWord, ruleWord, activeWord, unreadPlace, activityOf, inactive, RuleAgain, RulesAgain, unreadAt, firstUnread, fitting}
 
 -- One rule

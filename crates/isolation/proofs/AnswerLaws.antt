@@ -27,18 +27,18 @@ use Rattle.links.specs.Links.{childRow}
 use Rattle.tables.proofs.ColumnLaws.{column-at}
 use Rattle.references.proofs.TablesLaws.{nodes-fit}
 use Rattle.reader.proofs.FaultsLaws.{front}
-use Rattle.isolation.specs.declared.Listing
-use Rattle.isolation.specs.declared.Listing.{Listing}
+use Rattle.listing.specs.declared.Listing
+use Rattle.listing.specs.declared.Listing.{Listing}
 use Rattle.isolation.specs.ChipGraph.{rootFor, chipGraph}
 use Rattle.isolation.specs.Outcome as outcome
 use Rattle.isolation.specs.Outcome.{refusedOutcome, doneOutcome, reachedUnread, allRead, fromRoot, isolateIn, isolate}
 use Rattle.isolation.specs.Readings.{readingsFit}
-use Rattle.isolation.specs.Records.{recordSize, listing, recordsOf}
-use Rattle.isolation.specs.Rows.{keyId, keyNumber, rowsTo, rowsRecords, roomFor, listingOf, listAfter}
+use Rattle.listing.specs.Records.{recordSize, listing, recordsOf}
+use Rattle.listing.specs.Rows.{keyId, keyNumber, rowsTo, rowsRecords, roomFor, listingOf, listAfter}
 use Rattle.isolation.specs.Activity.{activeWord, unreadPlace, firstUnread, fitting}
 use Rattle.isolation.proofs.ChipLaws.{first-out, root-inside}
 use Rattle.isolation.proofs.GraphsLaws.{DoneReached, finished-done, rows-listing, rows-records-listing, listing-length}
-use Rattle.isolation.proofs.WriteLaws.{room-is}
+use Rattle.listing.proofs.WriteLaws.{room-is}
 use Rattle.isolation.proofs.TablesLaws.{entries-few, act-size, root-in-tables, tables-listing, tables-count}
 use Rattle.isolation.proofs.UnreadLaws.{unread-none, unread-some}
 

@@ -23,9 +23,9 @@ use Rattle.format.proofs.PositionsLaws.{at-inside}
 use Rattle.walk.specs.Marks.{finished}
 use Rattle.walk.proofs.Step.{getD-tabulate}
 use Rattle.walk.proofs.WalkLaws.{reached-inside}
-use Rattle.isolation.specs.Records.{recordOf, recordBytes, listing, linkRecord, recordsOf}
-use Rattle.isolation.specs.Rows.{shown, bitsTo, isDone, rowLinks, rowsTo, bitRecords, keyId, keyNumber, rowRecords, rowsRecords}
-use Rattle.isolation.proofs.WriteLaws.{record-length}
+use Rattle.listing.specs.Records.{recordOf, recordBytes, listing, linkRecord, recordsOf}
+use Rattle.listing.specs.Rows.{shown, bitsTo, isDone, rowLinks, rowsTo, bitRecords, keyId, keyNumber, rowRecords, rowsRecords}
+use Rattle.listing.proofs.WriteLaws.{record-length}
 
 abbrev link : ℕ → ℕ → Link
 link i b = record { instance = i; bit = b }

@@ -1,6 +1,4 @@
 -- The laws of isolation, and the samples.
-pub mod RowsLaws
-pub mod WriteLaws
 pub mod GraphsLaws
 pub mod ChipLaws
 pub mod OutcomeLaws

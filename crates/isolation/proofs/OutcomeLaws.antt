@@ -19,7 +19,7 @@ use Rattle.format.proofs.EveryLaws.{every-all, every-gathered-in}
 use Rattle.format.proofs.NumberedLaws.{verdict-numbered}
 use Rattle.isolation.specs.Readings.{readingsFit, unreadFaults}
 use Rattle.isolation.specs.ChipGraph.{rootFor, ruleUnread, chipGraph}
-use Rattle.isolation.specs.Records.{recordSize, listing, recordsOf}
+use Rattle.listing.specs.Records.{recordSize, listing, recordsOf}
 use Rattle.isolation.specs.Outcome.{Outcome, refusedOutcome, doneOutcome, entryUnread, reachedUnread, written, allRead, fromRoot, isolateIn, isolate}
 
 -- Unread registers have number 18

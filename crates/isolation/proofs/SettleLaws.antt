@@ -17,12 +17,12 @@ use Rattle.links.specs.Links.{rulePlace}
 use Rattle.walk.specs.declared.Walked.{Walked}
 use Rattle.walk.specs.Marks.{finished}
 use Rattle.walk.specs.TableGraph.{sizeOf, tableGraph}
-use Rattle.isolation.specs.declared.Listing
-use Rattle.isolation.specs.declared.Listing.{Listing}
+use Rattle.listing.specs.declared.Listing
+use Rattle.listing.specs.declared.Listing.{Listing}
 use Rattle.isolation.specs.Activity.{RulesAgain, activeWord, unreadPlace, firstUnread}
 use Rattle.isolation.specs.Outcome.{refusedOutcome, doneOutcome, isolate}
 use Rattle.isolation.specs.Ready.{Ready}
-use Rattle.isolation.specs.Rows.{rowsRecords, listingOf, listAfter}
+use Rattle.listing.specs.Rows.{rowsRecords, listingOf, listAfter}
 use Rattle.isolation.proofs.AnswerLaws.{column-front, column-entry, unread-refused, never-unfit, room-refused, all-written}
 use Rattle.isolation.proofs.UnreadLaws.{entries-rules}
 

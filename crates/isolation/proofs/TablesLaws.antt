@@ -38,7 +38,7 @@ use Rattle.rules.specs.Value.{faulty}
 use Rattle.isolation.specs.ChipGraph.{firstOf, ruleFor, childFor, ruleUnread, isNone, ruleActive, entryActive, childPosition, entryChild, chipGraph}
 use Rattle.isolation.specs.Outcome.{entryUnread}
 use Rattle.isolation.specs.Readings.{hasValue, wordFor, unreadFaults}
-use Rattle.isolation.specs.Records.{listing}
+use Rattle.listing.specs.Records.{listing}
 use Rattle.isolation.specs.Activity.{unreadBy, exprWord, activeWord}
 use Rattle.isolation.proofs.ActivityLaws.{rule-cases, no-rule, one-rule}
 use Rattle.isolation.proofs.ChipLaws.{chip-sound}

@@ -32,7 +32,7 @@ use Rattle.rules.specs.Value.{firstPlace}
 use Rattle.isolation.specs.ChipGraph.{ruleUnread, chipGraph}
 use Rattle.isolation.specs.Outcome.{Outcome, refusedOutcome, entryUnread, reachedUnread, allRead}
 use Rattle.isolation.specs.Readings.{unreadFaults}
-use Rattle.isolation.specs.Rows.{isDone}
+use Rattle.listing.specs.Rows.{isDone}
 use Rattle.isolation.specs.Activity.{activeWord, unreadPlace, RulesAgain, unreadAt, firstUnread}
 use Rattle.isolation.proofs.ActivityLaws.{rule-cases}
 use Rattle.isolation.proofs.GraphsLaws.{DoneReached, done-is}

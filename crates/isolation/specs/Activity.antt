@@ -17,7 +17,7 @@ use Rattle.tables.specs.Faults.{wordIn, unreadIn}
 use Rattle.rules.specs.Value.{faulty, firstPlace}
 use Rattle.isolation.specs.declared.Activity.{Activity}
 use Rattle.isolation.specs.ChipGraph.{ruleFor}
-use Rattle.isolation.specs.Rows.{isDone}
+use Rattle.listing.specs.Rows.{isDone}
 
 -- What an expression names without a reading, in byte order.
 unfoldable pub unreadBy : List ℕ → List ℕ → Expr → List Fault

@@ -1,8 +1,6 @@
 -- Isolation of one file with one set of readings.
 pub mod Readings
 pub mod ChipGraph
-pub mod Records
-pub mod Rows
 pub mod Activity
 pub mod Outcome
 pub mod Samples

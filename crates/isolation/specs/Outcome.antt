@@ -16,7 +16,7 @@ use Rattle.isolation.specs.declared.Isolated
 use Rattle.isolation.specs.declared.Isolated.{Isolated}
 use Rattle.isolation.specs.Readings.{readingsFit}
 use Rattle.isolation.specs.ChipGraph.{ruleFor, rootFor, ruleUnread, chipGraph}
-use Rattle.isolation.specs.Records.{recordSize, listing, recordsOf}
+use Rattle.listing.specs.Records.{recordSize, listing, recordsOf}
 
 -- The answer in the paper's numbers: number 0 is success; "Each refusal returns its number and place, zero records and zero steps, and the list keeps its bytes."
 pub record Outcome : Type 0 where

@@ -1,13 +1,13 @@
 // The answer of isolation from the tables of an accepted file.
 use crate::Isolated;
 use crate::Isolation;
-use crate::Listing;
 use crate::active::fill_active;
 use crate::active::first_unread;
 use crate::active::readings_fit;
-use crate::list::write_list;
 use format::Kind;
 use format::Refusal;
+use listing::Listing;
+use listing::write_list;
 use walk::run;
 ghost use mathlib.Core.Path.{_≡_};
 ghost use Rattle.references.specs.RootIn.{rootPosition};

@@ -25,7 +25,7 @@ use Rattle.readings.specs.ReadingsFile.{readByte, valueIn, fileFits, wordsOf, r
 use Rattle.readings.proofs.RecordLaws.{each-length}
 use Rattle.isolation.specs.Readings.{readingsFit}
 use Rattle.isolation.specs.ChipGraph.{rootFor, chipGraph}
-use Rattle.isolation.specs.Records.{recordSize, listing}
+use Rattle.listing.specs.Records.{recordSize, listing}
 use Rattle.isolation.specs.Outcome.{Outcome, refusedOutcome, doneOutcome, fromRoot, isolateIn, isolate}
 use Rattle.isolation.proofs.OutcomeLaws.{succeeds-in, succeeds-out}
 use Rattle.isolation.proofs.PreparedLaws.{refused-by, answer-refused}

@@ -10,7 +10,7 @@ use lib.Seq.{drop-drop}
 use Rattle.numbers.specs.Field.{field}
 use Rattle.numbers.proofs.BigEndianLaws.{Bytes, bytes-drop}
 use Rattle.numbers.proofs.FieldLaws.{field-lt, field-byte, field-two, field-drop}
-use Rattle.isolation.specs.Records.{recordSize}
+use Rattle.listing.specs.Records.{recordSize}
 use Rattle.tables.specs.Tables.{written}
 use Rattle.report.specs.Text.{Put, decimal, named, typeWord, nodeWord, instWord, bitWord, stepsWord, refusedWord, placeWord, lineEnd, bitLine, recordLine, recordLines, stepsLine, refusedLine}
 use Rattle.report.proofs.DecimalLaws.{decimal-short, decimal-few}

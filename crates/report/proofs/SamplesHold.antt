@@ -21,7 +21,7 @@ use Rattle.graph.specs.Paths.{reachedIn, reached, onCycle}
 use Rattle.isolation.specs.ChipGraph.{firstOf, ruleFor, rootFor, childFor, ruleUnread, ruleActive, entryActive, childPosition, entryChild, chipGraph}
 use Rattle.isolation.specs.Outcome.{entryUnread, reachedUnread, written, allRead, fromRoot, isolateIn, isolate}
 use Rattle.isolation.specs.Readings.{readingsFit, hasValue, wordFor, unreadFaults}
-use Rattle.isolation.specs.Records.{recordSize, recordOf, recordBytes, listing, linkRecord, recordsOf}
+use Rattle.listing.specs.Records.{recordSize, recordOf, recordBytes, listing, linkRecord, recordsOf}
 use Rattle.numbers.specs.BigEndian.{bigEndian, bytesOf}
 use Rattle.numbers.specs.Bits.{bitOf, wordOf, notBits, andBits, orBits, leftBits, rightBits}
 use Rattle.numbers.specs.Field.{present, field}

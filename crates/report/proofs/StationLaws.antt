@@ -22,7 +22,7 @@ use Rattle.tables.specs.Keys.{registerKeys}
 use Rattle.readings.specs.ReadingsFile.{fileFits}
 use Rattle.isolation.specs.ChipGraph.{rootFor}
 use Rattle.isolation.specs.Outcome.{refusedOutcome}
-use Rattle.isolation.specs.Records.{recordOf}
+use Rattle.listing.specs.Records.{recordOf}
 use Rattle.report.specs.Report.{fileFromRoot, isolateFileIn, isolateFile, stationList, report}
 use Rattle.report.specs.Text.{textOf, bitLine, recordLine}
 use Rattle.report.proofs.FileLaws.{meets}

@@ -8,7 +8,7 @@ use lib.ListN.{length, drop}
 use Rattle.numbers.specs.Field.{field}
 use Rattle.tables.specs.Tables.{written}
 use Rattle.isolation.specs.Outcome.{Outcome}
-use Rattle.isolation.specs.Records.{recordSize}
+use Rattle.listing.specs.Records.{recordSize}
 
 -- The decimal digits of a number that has at most k of them, without zeros in front.
 unfoldable pub spelled : ℕ → ℕ → List ℕ

@@ -1,0 +1,3 @@
+-- The laws of the listing and of writing it.
+pub mod RowsLaws
+pub mod WriteLaws

@@ -1,0 +1,161 @@
+-- The laws of the listing, node instance after node instance and bit after bit.
+use mathlib.Core.Path.{_≡_, refl, sym, ap, _∙_}
+use mathlib.Core.Bool.{Bool, true, false, cond}
+use mathlib.Core.List.{List, [], _∷_, _++_, map, append-assoc, append-nil}
+use mathlib.Core.Option.{Option, none, some}
+use Prim.Native.Nat.{ℕ, zero, suc, _+_, _*_, _/_, _%_, _≤_, _<_}
+use native.Mathlib.Omega.{arith}
+use native.Mathlib.Numerals.{add-one}
+use lib.Dec.{leb, ltb}
+use lib.ListN.{length, getD, set, take, drop, length-append, length-map}
+use lib.Seq.{sets-eq}
+use borrow.Author.Tests.{eq-eqb, ne-eqb, lt-ltb, le-leb, lt-leb}
+use Rattle.numbers.specs.Bits.{bitOf}
+use Rattle.numbers.specs.BigEndian.{bytesOf}
+use Rattle.graph.specs.Chains.{Graph, Link, bare, below, kept}
+use Rattle.format.specs.Lookup.{gathered}
+use Rattle.format.proofs.GatheredLaws.{gathered-append, gathered-one}
+use Rattle.walk.specs.TableGraph.{sizeOf, childAt, tableGraph}
+use Rattle.walk.specs.Fold.{orElse}
+use Rattle.walk.proofs.Tables.{child-in}
+use Rattle.listing.specs.Records.{recordOf}
+use Rattle.listing.specs.Rows.{shown, bitsTo, isDone, rowLinks, rowsTo}
+
+-- One bit
+
+module _ (act ch : List ℕ) (n i b : ℕ) (size : n ≡ sizeOf act) (h : i < n) (b64 : b < 64) where
+  i-in : ltb i (sizeOf act) ≡ true
+  i-in = rw (← size) (lt-ltb i n h)
+
+  pub shown-off : bitOf 64 (getD act i 0) b ≡ false → false ≡ shown (tableGraph act ch) i b
+  unfolding shown tableGraph
+  shown-off e = simp (i-in, e)
+
+  bare-is : {c : ℕ} (o : Option ℕ) → c ≡ orElse n o → ((d : ℕ) → o ≡ some d → d < n) → leb n c ≡ bare o
+  bare-is none e f = rw e (le-leb n n (omega arith))
+  bare-is (some d) e f = rw e (lt-leb n d (f d refl))
+
+  pub shown-on : bitOf 64 (getD act i 0) b ≡ true → {c : ℕ} → c ≡ orElse n (childAt n ch (i * 64 + b)) → leb n c ≡ shown (tableGraph act ch) i b
+  unfolding shown tableGraph
+  shown-on e d =
+      simp (i-in, e, lt-ltb b 64 b64)
+      (bare-is _ d (child-in n ch (i * 64 + b)) ∙ ap (λ x. bare (childAt x ch (i * 64 + b))) size)
+
+-- One bit more, and one node instance more
+
+pub kept-append : (p : ℕ → Bool) (xs ys : List ℕ) → kept p (xs ++ ys) ≡ kept p xs ++ kept p ys
+unfolding kept
+kept-append p [] ys = refl
+kept-append p (x ∷ xs) ys = go (p x) (kept-append p xs ys)
+  where
+    go : (t : Bool) {k : List ℕ} → k ≡ kept p xs ++ kept p ys → cond t (x ∷ k) k ≡ cond t (x ∷ kept p xs) (kept p xs) ++ kept p ys
+    go true e = rw e
+    go false e = e
+
+module _ (g : Graph) where
+  pub bits-none : (i : ℕ) → 0 ≡ length (bitsTo g i 0)
+  unfolding bitsTo below kept
+  bits-none i = refl
+
+  pub bits-more : (i b : ℕ) → bitsTo g i (b + 1) ≡ bitsTo g i b ++ kept (shown g i) (b ∷ [])
+  unfolding bitsTo below
+  bits-more i b = rw add-one (kept-append (shown g i) (below b) (b ∷ []))
+
+  pub count-more : (i b : ℕ) {c k : ℕ} → c ≡ length (bitsTo g i b) → k ≡ length (kept (shown g i) (b ∷ [])) → c + k ≡ length (bitsTo g i (b + 1))
+  count-more i b e d = omega (arith, ap length (bits-more i b), length-append (bitsTo g i b) (kept (shown g i) (b ∷ [])))
+
+  pub bits-end : (i b n : ℕ) {c : ℕ} → c ≡ length (bitsTo g i b) → b ≡ n → c ≡ length (bitsTo g i n)
+  bits-end i b n e d = rw (← d) e
+
+  pub bit-yes : (i b : ℕ) {t : Bool} → t ≡ shown g i b → t ≡ true → 1 ≡ length (kept (shown g i) (b ∷ []))
+  unfolding kept
+  bit-yes i b e d = rw (sym e ∙ d)
+
+  pub bit-no : (i b : ℕ) {t : Bool} → t ≡ shown g i b → t ≡ false → 0 ≡ length (kept (shown g i) (b ∷ []))
+  unfolding kept
+  bit-no i b e d = rw (sym e ∙ d)
+
+  kept-few : (p : ℕ → Bool) (xs : List ℕ) → length (kept p xs) ≤ length xs
+  unfolding kept
+  kept-few p [] = omega arith
+  kept-few p (x ∷ xs) = go (p x) (kept-few p xs)
+    where
+      go : (t : Bool) → length (kept p xs) ≤ length xs → length (cond t (x ∷ kept p xs) (kept p xs)) ≤ suc (length xs)
+      go true h = omega arith
+      go false h = omega arith
+
+  below-length : (n : ℕ) → length (below n) ≡ n
+  unfolding below
+  below-length zero = refl
+  below-length (suc n) = length-append (below n) (n ∷ []) ∙ omega (arith, below-length n)
+
+  pub bits-few : (i n : ℕ) → length (bitsTo g i n) ≤ n
+  unfolding bitsTo
+  bits-few i n = omega (arith, kept-few (shown g i) (below n), below-length n)
+
+  module _ (marks : List ℕ) where
+    pub row-done : (i : ℕ) {c : ℕ} → getD marks i 0 ≡ 2 → c ≡ length (bitsTo g i 64) → c ≡ length (rowLinks g marks i)
+    unfolding rowLinks isDone
+    row-done i e d = rw (eq-eqb _ 2 e, length-map) d
+
+    pub row-not : (i : ℕ) → (getD marks i 0 ≡ 2 → ⊥) → 0 ≡ length (rowLinks g marks i)
+    unfolding rowLinks isDone
+    row-not i e = rw (ne-eqb _ 2 e)
+
+    pub row-few : (i : ℕ) → length (rowLinks g marks i) ≤ 64
+    unfolding rowLinks
+    row-few i = go (isDone marks i)
+      where
+        link : ℕ → Link
+        link b = record { instance = i; bit = b }
+
+        go : (t : Bool) → length (cond t (map link (bitsTo g i 64)) []) ≤ 64
+        go true = rw length-map (bits-few i 64)
+        go false = omega arith
+
+    pub rows-none : 0 ≡ length (rowsTo g marks 0)
+    unfolding rowsTo below gathered
+    rows-none = refl
+
+    pub rows-more : (i : ℕ) → rowsTo g marks (i + 1) ≡ rowsTo g marks i ++ rowLinks g marks i
+    unfolding rowsTo below
+    rows-more i = rw add-one (gathered-append (rowLinks g marks) (below i) (i ∷ []) ∙ rw gathered-one)
+
+    pub rows-count : (i : ℕ) {c k : ℕ} → c ≡ length (rowsTo g marks i) → k ≡ length (rowLinks g marks i) → c + k ≡ length (rowsTo g marks (i + 1))
+    rows-count i e d = omega (arith, ap length (rows-more i), length-append (rowsTo g marks i) (rowLinks g marks i))
+
+    pub rows-end : (i n : ℕ) {c : ℕ} → c ≡ length (rowsTo g marks i) → i ≡ n → c ≡ length (rowsTo g marks n)
+    rows-end i n e d = rw (← d) e
+
+    pub rows-few : (n : ℕ) → length (rowsTo g marks n) ≤ n * 64
+    rows-few zero = omega (arith, rows-none)
+    rows-few (suc n) =
+        let e : length (rowsTo g marks (suc n)) ≡ length (rowsTo g marks (n + 1)) = ap (λ x. length (rowsTo g marks x)) (sym (add-one n)) in
+        omega (arith, e, ap length (rows-more n), length-append (rowsTo g marks n) (rowLinks g marks n), row-few n, rows-few n)
+
+-- A record's eight bytes
+
+record-is : (attention bit id number : ℕ) → attention < 256 → bit < 256 → id < 65536 → number < 256
+    → attention ∷ bit ∷ id / 256 ∷ id % 256 ∷ number ∷ 0 ∷ 0 ∷ 0 ∷ [] ≡ recordOf attention bit id number
+unfolding recordOf bytesOf
+record-is attention bit id number ha hb hi hn =
+    let a : attention / 1 % 256 ≡ attention = omega arith in
+    let b : bit / 1 % 256 ≡ bit = omega arith in
+    let h : id / 256 % 256 ≡ id / 256 = omega arith in
+    let l : id / 1 % 256 ≡ id % 256 = omega arith in
+    let n : number / 1 % 256 ≡ number = omega arith in
+    sym (rw (a, b, h, l, n))
+
+pub record-put : (list : List ℕ) (at attention bit id number : ℕ) → at + 8 ≤ length list → attention < 256 → bit < 256 → id < 65536 → number < 256
+    → set (set (set (set (set (set (set (set list at attention) (at + 1) bit) (at + 2) (id / 256)) (at + 3) (id % 256)) (at + 4) number) (at + 5) 0) (at + 6) 0) (at + 7) 0
+    ≡ take at list ++ (recordOf attention bit id number ++ drop (at + 8) list)
+record-put list at attention bit id number l ha hb hi hn =
+    let vs : List ℕ = attention ∷ bit ∷ id / 256 ∷ id % 256 ∷ number ∷ 0 ∷ 0 ∷ 0 ∷ [] in
+    let e1 : at + 1 ≡ suc at = omega arith in
+    let e2 : at + 2 ≡ suc (suc at) = omega arith in
+    let e3 : at + 3 ≡ suc (suc (suc at)) = omega arith in
+    let e4 : at + 4 ≡ suc (suc (suc (suc at))) = omega arith in
+    let e5 : at + 5 ≡ suc (suc (suc (suc (suc at)))) = omega arith in
+    let e6 : at + 6 ≡ suc (suc (suc (suc (suc (suc at))))) = omega arith in
+    let e7 : at + 7 ≡ suc (suc (suc (suc (suc (suc (suc at)))))) = omega arith in
+    rw (e1, e2, e3, e4, e5, e6, e7, ← record-is attention bit id number ha hb hi hn) (sets-eq vs list at l ∙ append-assoc (take at list) vs (drop (at + 8) list))

@@ -1,0 +1,50 @@
+use mathlib.Core.Path.{sym, _∙_}
+use borrow.Author.Tests.{not-true, not-false}
+use native.Mathlib.Omega.{arith}
+use Rattle.walk.proofs.Tables.{size-few}
+use Rattle.listing.proofs.RowsLaws.{shown-off, shown-on}
+use borrow.Author.Needs.{needs}
+use Rattle.listing.proofs.is_shown.Statement.{statement}
+use Rattle.listing.proofs.is_shown.Tie as tie
+
+mul-bit : tie.Need-mul-bit
+mul-bit c = let s = c .before .before in omega (arith, size-few (s .args .active .now))
+
+shared-slice-read-bit : tie.Need-shared-slice-read-bit
+shared-slice-read-bit c = let s = c .before .before .before in omega (arith, size-few (s .args .active .now))
+
+bit-requires : tie.Need-bit-requires
+bit-requires c κs = search needs
+
+returns : tie.Need-returns
+returns c =
+    let s = c .before .before .before .before .before in
+    shown-off _ _ _ _ _ (s .pre .0) (s .pre .1) (s .pre .2) (sym (c .before .bit .ensures) ∙ not-true _ (c .if1 .taken))
+
+mul-child-at : tie.Need-mul-child-at
+mul-child-at c = let s = c .before .before .before .before .before in omega (arith, size-few (s .args .active .now))
+
+add-child-at : tie.Need-add-child-at
+add-child-at c = let s = c .before .before .before .before .before in omega (arith, size-few (s .args .active .now))
+
+child-at-requires : tie.Need-child-at-requires
+child-at-requires c κs = search needs
+
+returns-2 : tie.Need-returns-2
+returns-2 c =
+    let d = c .before in
+    let s = d .before .before .before .before .before in
+    shown-on _ _ _ _ _ (s .pre .0) (s .pre .1) (s .pre .2) (sym (d .before .bit .ensures) ∙ not-false _ (d .if1 .left)) (c .child-at .ensures)
+
+pub is-shown-spec : {M : Type 1} → statement M
+is-shown-spec =
+    tie.close
+    (tie.spec
+    mul-bit
+    shared-slice-read-bit
+    bit-requires
+    returns
+    mul-child-at
+    add-child-at
+    child-at-requires
+    returns-2)

@@ -1,0 +1,34 @@
+use native.Mathlib.Omega.{arith}
+use Rattle.listing.proofs.RowsLaws.{bit-yes}
+use Rattle.listing.proofs.WriteLaws.{bit-wrote, bit-kept}
+use borrow.Author.Needs.{needs}
+use Rattle.listing.proofs.put_bit.Statement.{statement}
+use Rattle.listing.proofs.put_bit.Tie as tie
+
+is-shown-requires : tie.Need-is-shown-requires
+is-shown-requires c κs = search needs
+
+put-record-requires : tie.Need-put-record-requires
+put-record-requires c κs =
+    let d = c .before .before in
+    let s = d .before .before .before .before in
+    omega (arith, bit-yes _ _ _ (d .is-shown .ensures) (c .before .if1 .taken), s .pre .1)
+
+add-result : tie.Need-add-result
+add-result c = search needs
+
+same-length : tie.Need-same-length
+same-length c = search needs
+
+returns : tie.Need-returns
+returns c =
+    let d = c .before .before .before in
+    bit-wrote _ _ _ _ _ _ (d .before .before .is-shown .ensures) (d .before .if1 .taken) (c .before .before .put-record .ensures) (search needs)
+
+returns-2 : tie.Need-returns-2
+returns-2 c = bit-kept _ _ _ _ _ _ (c .before .is-shown .ensures) (c .if1 .left)
+
+pub put-bit-spec : {M : Type 1} → statement M
+put-bit-spec =
+    tie.close
+    (tie.spec is-shown-requires put-record-requires add-result same-length returns returns-2)

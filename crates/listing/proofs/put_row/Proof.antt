@@ -1,0 +1,52 @@
+use Rattle.walk.specs.TableGraph.{tableGraph}
+use Rattle.listing.proofs.WriteLaws.{row-room, row-wrote, row-kept}
+use borrow.Author.Needs.{needs}
+use Rattle.listing.proofs.put_row.Statement.{statement}
+use Rattle.listing.proofs.put_row.Tie as tie
+
+shared-slice-read-if1 : tie.Need-shared-slice-read-if1
+shared-slice-read-if1 c = search needs
+
+mul-key : tie.Need-mul-key
+mul-key c = search needs
+
+shared-slice-read-key : tie.Need-shared-slice-read-key
+shared-slice-read-key c = search needs
+
+cast-put-bits : tie.Need-cast-put-bits
+cast-put-bits c = search needs
+
+cast-put-bits-2 : tie.Need-cast-put-bits-2
+cast-put-bits-2 c = search needs
+
+put-bits-requires : tie.Need-put-bits-requires
+put-bits-requires c κs =
+    let t = c .before .before in
+    let s = t .before .before .before .before .before .before .before in
+    let a = s .args in (
+      (s .pre .0 .0, s .pre .0 .1),
+      row-room (a .attention) (a .keys .now) (tableGraph (a .active .now) (a .child .now)) (a .marks .now) (a .i) (a .list .now) (a .«at») (t .if1 .taken) (s .pre .1),
+    )
+
+same-length : tie.Need-same-length
+same-length c = search needs
+
+returns : tie.Need-returns
+returns c = row-wrote _ _ _ _ _ (c .before .before .before .before .before .if1 .taken) (c .before .before .put-bits .ensures)
+
+returns-2 : tie.Need-returns-2
+returns-2 c = row-kept _ _ _ _ _ (c .if1 .left)
+
+pub put-row-spec : {M : Type 1} → statement M
+put-row-spec =
+    tie.close
+    (tie.spec
+    shared-slice-read-if1
+    mul-key
+    shared-slice-read-key
+    cast-put-bits
+    cast-put-bits-2
+    put-bits-requires
+    same-length
+    returns
+    returns-2)

@@ -1,0 +1,224 @@
+// The list: the listed bits are counted first, and their records written only where there is room for all.
+ghost use mathlib.Core.Path.{_≡_};
+ghost use mathlib.Core.List.{[], _∷_, _++_};
+ghost use Prim.Native.Nat.{_+_, _*_, _<_, _≤_};
+ghost use lib.ListN.{length, take, drop};
+ghost use Rattle.graph.specs.Chains.{kept};
+ghost use Rattle.walk.specs.TableGraph.{sizeOf, tableGraph};
+ghost use Rattle.listing.specs.Rows.{shown, bitsTo, rowLinks, rowsTo, bitRecords, rowRecords, rowsRecords, Wrote, listingOf, listAfter};
+ghost use Rattle.listing.specs.Records.{recordOf};
+
+// How many records were written; or how many there is no room for; or that a table has no place for some node instance.
+pub enum Listing {
+    Written(usize),
+    NoRoom(usize),
+    Unfit,
+}
+
+// Whether bit b of the instance i is active and has no child.
+fn is_shown(active: &[u64], child: &[u16], n: usize, i: usize, b: u8) -> bool
+    requires { ⌜ (n ≡ sizeOf (now active)) × (i < n) × (b < 64) ⌝ }
+    ensures { λ r. ⌜ r ≡ shown (tableGraph (now (active .entry)) (now (child .entry))) i b ⌝ }
+{
+    if !numbers::bit(active[i], b) {
+        return false;
+    }
+    n <= walk::child_at(n, child, i * 64 + b as usize)
+}
+
+// 1 where bit b of the instance i is shown, otherwise 0.
+fn count_bit(active: &[u64], child: &[u16], n: usize, i: usize, b: u8) -> usize
+    requires { ⌜ (n ≡ sizeOf (now active)) × (i < n) × (b < 64) ⌝ }
+    ensures { λ r. ⌜ r ≡ length (kept (shown (tableGraph (now (active .entry)) (now (child .entry))) i) (b ∷ [])) ⌝ }
+{
+    if is_shown(active, child, n, i, b) {
+        return 1;
+    }
+    0
+}
+
+// How many bits of the instance i are shown. It looks at each of its 64 bits once.
+fn count_bits(active: &[u64], child: &[u16], n: usize, i: usize) -> usize
+    requires { ⌜ (n ≡ sizeOf (now active)) × (i < n) ⌝ }
+    ensures { λ r. ⌜ r ≡ length (bitsTo (tableGraph (now (active .entry)) (now (child .entry))) i 64) ⌝ }
+{
+    let mut count = 0;
+    let mut b: u8 = 0;
+    while b < 64 {
+        count += count_bit(active, child, n, i, b);
+        b += 1;
+    }
+    count
+}
+
+// How many links the instance i has in the list: none unless it is done.
+fn count_row(marks: &[u8], active: &[u64], child: &[u16], n: usize, i: usize) -> usize
+    requires { ⌜ (n ≡ sizeOf (now active)) × (i < n) × (n ≤ length (now marks)) ⌝ }
+    ensures { λ r. ⌜ r ≡ length (rowLinks (tableGraph (now (active .entry)) (now (child .entry))) (now (marks .entry)) i) ⌝ }
+{
+    if marks[i] == 2 {
+        return count_bits(active, child, n, i);
+    }
+    0
+}
+
+// How many links the list has. It looks at each instance once.
+fn count_rows(marks: &[u8], active: &[u64], child: &[u16], n: usize) -> usize
+    requires { ⌜ (n ≡ sizeOf (now active)) × (n ≤ length (now marks)) ⌝ }
+    ensures { λ r. ⌜ r ≡ length (rowsTo (tableGraph (now (active .entry)) (now (child .entry))) (now (marks .entry)) n) ⌝ }
+{
+    let mut count = 0;
+    let mut i = 0;
+    while i < n {
+        count += count_row(marks, active, child, n, i);
+        i += 1;
+    }
+    count
+}
+
+// A record at a place of the list.
+fn put_record(list: &mut [u8], at: usize, attention: u8, bit: u8, id: u16, number: u8)
+    requires { ⌜ at + 8 ≤ length (now list) ⌝ }
+    ensures { λ r. ⌜ now (list .exit) ≡ take at (now (list .entry)) ++ (recordOf attention bit id number ++ drop (at + 8) (now (list .entry))) ⌝ }
+{
+    list[at] = attention;
+    list[at + 1] = bit;
+    list[at + 2] = (id / 256) as u8;
+    list[at + 3] = (id % 256) as u8;
+    list[at + 4] = number;
+    list[at + 5] = 0;
+    list[at + 6] = 0;
+    list[at + 7] = 0;
+}
+
+// The record of bit b of the instance i, if it is shown: the place after it.
+fn put_bit(
+    list: &mut [u8],
+    at: usize,
+    attention: u8,
+    id: u16,
+    number: u8,
+    active: &[u64],
+    child: &[u16],
+    n: usize,
+    i: usize,
+    b: u8,
+) -> usize
+    requires { ⌜ (n ≡ sizeOf (now active)) × (i < n) × (b < 64) ⌝ }
+    requires { ⌜ at + 8 * length (kept (shown (tableGraph (now active) (now child)) i) (b ∷ [])) ≤ length (now list) ⌝ }
+    ensures { λ r. ⌜ Wrote (now (list .entry)) (now (list .exit)) at r (bitRecords attention id number (kept (shown (tableGraph (now (active .entry)) (now (child .entry))) i) (b ∷ []))) ⌝ }
+{
+    if is_shown(active, child, n, i, b) {
+        put_record(list, at, attention, b, id, number);
+        return at + 8;
+    }
+    at
+}
+
+// The records of the shown bits of the instance i: the place after them. It looks at each of its 64 bits once.
+fn put_bits(
+    list: &mut [u8],
+    at: usize,
+    attention: u8,
+    id: u16,
+    number: u8,
+    active: &[u64],
+    child: &[u16],
+    n: usize,
+    i: usize,
+) -> usize
+    requires { ⌜ (n ≡ sizeOf (now active)) × (i < n) ⌝ }
+    requires { ⌜ at + 8 * length (bitsTo (tableGraph (now active) (now child)) i 64) ≤ length (now list) ⌝ }
+    ensures { λ r. ⌜ Wrote (now (list .entry)) (now (list .exit)) at r (bitRecords attention id number (bitsTo (tableGraph (now (active .entry)) (now (child .entry))) i 64)) ⌝ }
+{
+    let mut place = at;
+    let mut b: u8 = 0;
+    while b < 64 {
+        place = put_bit(list, place, attention, id, number, active, child, n, i, b);
+        b += 1;
+    }
+    place
+}
+
+// The records of the instance i, if it is done: the place after them. `keys` are the keys of the instances.
+fn put_row(
+    list: &mut [u8],
+    at: usize,
+    attention: u8,
+    keys: &[u64],
+    marks: &[u8],
+    active: &[u64],
+    child: &[u16],
+    n: usize,
+    i: usize,
+) -> usize
+    requires { ⌜ (n ≡ sizeOf (now active)) × (i < n) × (n ≤ length (now marks)) × (n ≤ length (now keys)) ⌝ }
+    requires { ⌜ at + 8 * length (rowLinks (tableGraph (now active) (now child)) (now marks) i) ≤ length (now list) ⌝ }
+    ensures { λ r. ⌜ Wrote (now (list .entry)) (now (list .exit)) at r (rowRecords attention (now (keys .entry)) (tableGraph (now (active .entry)) (now (child .entry))) (now (marks .entry)) i) ⌝ }
+{
+    if marks[i] == 2 {
+        let key = keys[i];
+        return put_bits(
+            list,
+            at,
+            attention,
+            (key / 256 % 65536) as u16,
+            (key % 256) as u8,
+            active,
+            child,
+            n,
+            i,
+        );
+    }
+    at
+}
+
+// The records of all done instances from the front of the list on: the place after them. It looks at each instance once.
+fn put_rows(
+    list: &mut [u8],
+    attention: u8,
+    keys: &[u64],
+    marks: &[u8],
+    active: &[u64],
+    child: &[u16],
+    n: usize,
+) -> usize
+    requires { ⌜ (n ≡ sizeOf (now active)) × (n ≤ length (now marks)) × (n ≤ length (now keys)) ⌝ }
+    requires { ⌜ 8 * length (rowsTo (tableGraph (now active) (now child)) (now marks) n) ≤ length (now list) ⌝ }
+    ensures { λ r. ⌜ Wrote (now (list .entry)) (now (list .exit)) 0 r (rowsRecords attention (now (keys .entry)) (tableGraph (now (active .entry)) (now (child .entry))) (now (marks .entry)) n) ⌝ }
+{
+    let mut place = 0;
+    let mut i = 0;
+    while i < n {
+        place = put_row(list, place, attention, keys, marks, active, child, n, i);
+        i += 1;
+    }
+    place
+}
+
+// The records of all done instances, where there is room for all of them; otherwise the list keeps its bytes.
+pub fn write_list(
+    list: &mut [u8],
+    attention: u8,
+    keys: &[u64],
+    marks: &[u8],
+    active: &[u64],
+    child: &[u16],
+) -> Listing
+    ensures { λ r. ⌜ r ≡ listingOf (now (keys .entry)) (now (marks .entry)) (now (active .entry)) (now (child .entry)) (length (now (list .entry))) ⌝ }
+    ensures { λ r. ⌜ now (list .exit) ≡ listAfter r (rowsRecords attention (now (keys .entry)) (tableGraph (now (active .entry)) (now (child .entry))) (now (marks .entry)) (sizeOf (now (active .entry)))) (now (list .entry)) ⌝ }
+{
+    let n = walk::size(active);
+    if marks.len() < n {
+        return Listing::Unfit;
+    }
+    if keys.len() < n {
+        return Listing::Unfit;
+    }
+    let count = count_rows(marks, active, child, n);
+    if list.len() / 8 < count {
+        return Listing::NoRoom(count);
+    }
+    put_rows(list, attention, keys, marks, active, child, n);
+    Listing::Written(count)
+}
