@@ -13,6 +13,7 @@ use crate::layout::{
 };
 use crate::readings::READ;
 use crate::refusal::{self, Refusal};
+use crate::report::LIST_RECORDS;
 
 /// As [`crate::check`].
 pub fn check(file: &[u8]) -> Result<Summary, Refusal> {
@@ -52,18 +53,126 @@ pub fn isolate(
     list: &mut [u8],
 ) -> Result<(usize, usize), Refusal> {
     let chip = Chip::read(file, attention_type)?;
-    if !is_attention_type(attention_type) {
-        return Err(Refusal::new(refusal::UNKNOWN_ATTENTION, 0));
-    }
-    let mut roots = chip.roots.iter();
-    let root = roots
-        .find(|root| root.attention_type == attention_type)
-        .ok_or(Refusal::new(refusal::NO_ROOT, 0))?;
+    let root = chip.root()?;
     let instances = chip.register_instances.len();
     if words.len() != instances || read.len() != instances || read.iter().any(|&r| r > READ) {
         return Err(Refusal::new(refusal::READINGS_DO_NOT_FIT, 0));
     }
-    chip.isolate_from(root.position, attention_type, words, read, list)
+    let mut listed = [0; MAX_NODE_INSTANCES];
+    let (records, steps) = chip.isolate_from(root, words, read, &mut listed)?;
+    if list.len() / RECORD_BYTES < records {
+        return Err(Refusal::new(refusal::NO_ROOM, records));
+    }
+    let mut places = list.chunks_exact_mut(RECORD_BYTES);
+    chip.each_listed(&listed, |instance, bit| {
+        let [high, low] = instance.id.to_be_bytes();
+        if let Some(place) = places.next() {
+            let record = [attention_type, bit, high, low, instance.number, 0, 0, 0];
+            place.copy_from_slice(&record);
+        }
+    });
+    Ok((records, steps))
+}
+
+/// As [`crate::report`], to the front of a lent text, which gets as much as it
+/// has room for. Returns the length of the whole text.
+pub fn report(file: &[u8], attention_type: u8, readings_file: &[u8], text: &mut [u8]) -> usize {
+    let mut text = Text { text, length: 0 };
+    if let Err(refusal) = report_to(file, attention_type, readings_file, &mut text) {
+        let mut line = Line::new();
+        line.named("refused ", u32::from(refusal.number));
+        line.named(" place ", refusal.place as u32);
+        text.put(line);
+    }
+    text.length
+}
+
+/// Puts nothing where it refuses.
+fn report_to(
+    file: &[u8],
+    attention_type: u8,
+    readings_file: &[u8],
+    text: &mut Text<'_>,
+) -> Result<(), Refusal> {
+    let chip = Chip::read(file, attention_type)?;
+    let root = chip.root()?;
+    let (words, read) = chip
+        .decode(readings_file)
+        .ok_or(Refusal::new(refusal::READINGS_DO_NOT_FIT, 0))?;
+    let mut listed = [0; MAX_NODE_INSTANCES];
+    let (records, steps) = chip.isolate_from(root, &words, &read, &mut listed)?;
+    if records > LIST_RECORDS {
+        return Err(Refusal::new(refusal::NO_ROOM, records));
+    }
+    chip.each_listed(&listed, |instance, bit| {
+        let mut line = Line::new();
+        line.named("type ", u32::from(attention_type));
+        line.named(" node ", u32::from(instance.id));
+        line.named(" inst ", u32::from(instance.number));
+        line.named(" bit ", u32::from(bit));
+        text.put(line);
+    });
+    let mut line = Line::new();
+    line.named("steps ", steps as u32);
+    text.put(line);
+    Ok(())
+}
+
+/// A lent text and how long it would be with room for all.
+struct Text<'a> {
+    text: &'a mut [u8],
+    length: usize,
+}
+
+impl Text<'_> {
+    #[inline]
+    fn put(&mut self, mut line: Line) {
+        line.put(b"\n");
+        let bytes = &line.bytes[..line.length];
+        let room = self.text.get_mut(self.length..).unwrap_or_default();
+        let most = room.len().min(bytes.len());
+        room[..most].copy_from_slice(&bytes[..most]);
+        self.length += bytes.len();
+    }
+}
+
+/// A line of four words and numbers at most: 22 letters and 40 digits.
+struct Line {
+    bytes: [u8; 64],
+    length: usize,
+}
+
+impl Line {
+    #[inline]
+    fn new() -> Self {
+        Line {
+            bytes: [0; 64],
+            length: 0,
+        }
+    }
+
+    #[inline]
+    fn put(&mut self, bytes: &[u8]) {
+        self.bytes[self.length..self.length + bytes.len()].copy_from_slice(bytes);
+        self.length += bytes.len();
+    }
+
+    #[inline]
+    fn named(&mut self, word: &str, number: u32) {
+        self.put(word.as_bytes());
+        let mut digits = [0; 10];
+        let mut first = digits.len();
+        let mut left = number;
+        loop {
+            first -= 1;
+            digits[first] = b'0' + (left % 10) as u8;
+            left /= 10;
+            if left == 0 {
+                break;
+            }
+        }
+        self.put(&digits[first..]);
+    }
 }
 
 fn name(id: u32, instance: u8) -> u32 {
@@ -137,6 +246,7 @@ impl ByteSet {
 }
 
 struct RegisterInstance {
+    name: u32,
     address_at: u32,
     register_type: u8,
     readable: bool,
@@ -353,8 +463,10 @@ impl<'a> Chip<'a> {
             } else {
                 self.reader.bytes::<8>()?;
             }
-            self.register_names.insert(name(id, number), position);
+            let name = name(id, number);
+            self.register_names.insert(name, position);
             self.register_instances.push(RegisterInstance {
+                name,
                 address_at,
                 register_type,
                 readable: flags & READABLE != 0,
@@ -610,18 +722,57 @@ impl<'a> Chip<'a> {
         false
     }
 
+    /// The position of the wanted root's node instance.
+    fn root(&self) -> Result<usize, Refusal> {
+        if !is_attention_type(self.wanted) {
+            return Err(Refusal::new(refusal::UNKNOWN_ATTENTION, 0));
+        }
+        let mut roots = self.roots.iter();
+        roots
+            .find(|root| root.attention_type == self.wanted)
+            .map(|root| root.position)
+            .ok_or(Refusal::new(refusal::NO_ROOT, 0))
+    }
+
+    /// Words and read bytes, if the readings file fits.
+    fn decode(&self, readings_file: &[u8]) -> Option<(Vec<u64>, Vec<u8>)> {
+        let instances = &self.register_instances;
+        let (records, []) = readings_file.as_chunks::<16>() else {
+            return None;
+        };
+        if records.len() != instances.len() {
+            return None;
+        }
+        let mut words = Vec::with_capacity(instances.len());
+        let mut read = Vec::with_capacity(instances.len());
+        for (record, instance) in records.iter().zip(instances) {
+            let record = u128::from_be_bytes(*record);
+            let word = record as u64;
+            // The read byte and three zeros.
+            let fits = match (record >> 64) as u32 {
+                0 => word == 0,
+                0x0100_0000 => true,
+                _ => false,
+            };
+            if !fits || (record >> 96) as u32 != instance.name {
+                return None;
+            }
+            words.push(word);
+            read.push((record >> 88) as u8);
+        }
+        Some((words, read))
+    }
+
+    /// Puts the bits to list of each instance, which were 0, and returns how
+    /// many they are, and the steps.
     fn isolate_from(
         &self,
         root: usize,
-        attention_type: u8,
         words: &[u64],
         read: &[u8],
-        list: &mut [u8],
+        listed: &mut [u64; MAX_NODE_INSTANCES],
     ) -> Result<(usize, usize), Refusal> {
-        let count = self.node_instances.len();
         let mut reached = [false; MAX_NODE_INSTANCES];
-        // The bits to list of a reached instance.
-        let mut listed = [0u64; MAX_NODE_INSTANCES];
         let mut waiting = [0u16; MAX_NODE_INSTANCES];
         let mut first_unread = (MAX_NODE_INSTANCES, 0);
         let mut records = 0;
@@ -663,23 +814,24 @@ impl<'a> Chip<'a> {
         if first_unread.0 < MAX_NODE_INSTANCES {
             return Err(Refusal::new(refusal::REGISTER_UNREAD, first_unread.1));
         }
-        if list.len() / RECORD_BYTES < records {
-            return Err(Refusal::new(refusal::NO_ROOM, records));
-        }
-        let mut places = list.chunks_exact_mut(RECORD_BYTES);
-        for (instance, &bits) in self.node_instances.iter().zip(&listed[..count]) {
-            let [high, low] = instance.id.to_be_bytes();
+        Ok((records, steps))
+    }
+
+    /// The bits to list, instances in file order and bits from 0 up.
+    #[inline]
+    fn each_listed(
+        &self,
+        listed: &[u64; MAX_NODE_INSTANCES],
+        mut take: impl FnMut(&NodeInstance, u8),
+    ) {
+        for (instance, &bits) in self.node_instances.iter().zip(listed) {
             let mut bits = bits;
             while bits != 0 {
                 let bit = bits.leading_zeros() as u8;
                 bits &= !(1 << (HIGHEST_BIT - bit));
-                if let Some(place) = places.next() {
-                    let record = [attention_type, bit, high, low, instance.number, 0, 0, 0];
-                    place.copy_from_slice(&record);
-                }
+                take(instance, bit);
             }
         }
-        Ok((records, steps))
     }
 
     /// The value of the expression at `at`, which moves behind it, or the

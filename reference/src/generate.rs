@@ -6,16 +6,17 @@
 mod aimed;
 mod damage;
 mod draft;
+mod misfit;
 mod random;
 
-pub use aimed::{aimed_case, large_case, Sizes, HIGHEST_NUMBER};
+pub use aimed::{aimed_case, full_list_case, large_case, Sizes, HIGHEST_NUMBER};
 pub use damage::damaged_file;
 pub use draft::{valid_file, Field, FieldKind, FieldMap, Shape};
+pub use misfit::{Misfit, MISFITS};
 pub use random::Random;
 
-use crate::checker::Accepted;
 use crate::isolation;
-use crate::layout::MAX_FILE_BYTES;
+use crate::layout::{self, MAX_FILE_BYTES};
 use crate::readings::{self, READ, UNREAD};
 
 /// All that one isolation call is lent. The list has `room` bytes.
@@ -119,28 +120,27 @@ fn room(random: &mut Random) -> usize {
     records * isolation::RECORD_BYTES + if random.one_in(4) { random.below(8) } else { 0 }
 }
 
-/// A readings file for the case, now and then damaged. None if the case's own
-/// file is refused or its readings do not fit.
-pub fn readings_file(random: &mut Random, case: &Case) -> Option<Vec<u8>> {
-    let accepted = Accepted::read(&case.file).ok()?;
-    readings::Readings::fit(&accepted.tree, &case.words, &case.read).ok()?;
-    let mut bytes = readings::encode(&accepted, &case.words, &case.read);
-    match random.below(12) {
-        0 => drop(bytes.pop()),
-        1 => bytes.push(0),
-        2 => bytes.truncate(bytes.len() - readings::RECORD_BYTES),
-        3 => bytes.extend([0; readings::RECORD_BYTES]),
-        4 | 5 => {
-            let at = random.below(bytes.len());
-            bytes[at] ^= 1 << random.below(8);
+/// The readings file of the case's readings, often one that does not fit. The
+/// records of a case whose registers cannot be read have made-up names.
+pub fn readings_file(random: &mut Random, case: &Case) -> Vec<u8> {
+    let mut bytes = match layout::read(&case.file) {
+        Ok(tree) => readings::encode(&tree, &case.words, &case.read),
+        Err(_) => {
+            let records = (1..).zip(&case.words).zip(&case.read);
+            records
+                .flat_map(|((id, &word), &read)| readings::record(id, 0, word, read))
+                .collect()
         }
-        6 => {
-            let at = random.below(bytes.len() / readings::RECORD_BYTES) * readings::RECORD_BYTES;
-            bytes[at + 4] = UNREAD;
+    };
+    if random.one_in(3) {
+        let misfit = *random.pick(&MISFITS);
+        misfit.put(random, &mut bytes);
+        if random.one_in(8) {
+            let misfit = *random.pick(&MISFITS);
+            misfit.put(random, &mut bytes);
         }
-        _ => {}
     }
-    Some(bytes)
+    bytes
 }
 
 #[cfg(test)]

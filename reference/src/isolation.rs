@@ -37,7 +37,7 @@ pub fn isolate_with_readings_file(
 ) -> Result<(usize, usize), Refusal> {
     let accepted = Accepted::read(file)?;
     let root = accepted.root(attention_type)?;
-    let (words, read) = readings::decode(&accepted, readings_file)?;
+    let (words, read) = readings::decode(&accepted.tree, readings_file)?;
     let readings = Readings::fit(&accepted.tree, &words, &read)?;
     accepted.isolate_from(root, attention_type, readings, list)
 }

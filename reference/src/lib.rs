@@ -1,5 +1,5 @@
 //! A plain reference for chip data files: the checker, the address query,
-//! readings and error isolation.
+//! readings, error isolation and the station's text.
 
 pub mod cases;
 pub mod checker;
@@ -15,9 +15,11 @@ pub mod layout;
 pub mod readings;
 pub mod references;
 pub mod refusal;
+pub mod report;
 pub mod tree;
 pub mod vectors;
 
 pub use checker::{address, check, Accepted, Summary};
 pub use isolation::{isolate, isolate_with_readings_file};
 pub use refusal::Refusal;
+pub use report::report;

@@ -1,6 +1,5 @@
 //! Readings: a word and a read byte for each register instance, in file order.
 
-use crate::checker::Accepted;
 use crate::refusal::{self, Refusal};
 use crate::tree::Tree;
 
@@ -37,8 +36,7 @@ impl<'a> Readings<'a> {
 }
 
 /// The words and read bytes of a readings file.
-pub fn decode(accepted: &Accepted, readings_file: &[u8]) -> Result<(Vec<u64>, Vec<u8>), Refusal> {
-    let tree = &accepted.tree;
+pub fn decode(tree: &Tree, readings_file: &[u8]) -> Result<(Vec<u64>, Vec<u8>), Refusal> {
     let instances = &tree.register_instances;
     if readings_file.len() != instances.len() * RECORD_BYTES {
         return Err(refused());
@@ -65,15 +63,22 @@ pub fn decode(accepted: &Accepted, readings_file: &[u8]) -> Result<(Vec<u64>, Ve
 }
 
 /// The readings file of lists that fit. Unread values are written as zero.
-pub fn encode(accepted: &Accepted, words: &[u64], read: &[u8]) -> Vec<u8> {
-    let tree = &accepted.tree;
+pub fn encode(tree: &Tree, words: &[u64], read: &[u8]) -> Vec<u8> {
     let mut file = Vec::with_capacity(words.len() * RECORD_BYTES);
     for ((instance, &word), &read) in tree.register_instances.iter().zip(words).zip(read) {
         let id = tree.registers[instance.register].id;
-        file.extend_from_slice(&id.to_be_bytes()[1..]);
-        file.extend_from_slice(&[instance.number, read, 0, 0, 0]);
-        let value = if read == READ { word } else { 0 };
-        file.extend_from_slice(&value.to_be_bytes());
+        file.extend(record(id, instance.number, word, read));
     }
     file
+}
+
+/// One record. An unread value is written as zero.
+pub fn record(id: u32, instance: u8, word: u64, read: u8) -> [u8; RECORD_BYTES] {
+    let mut record = [0; RECORD_BYTES];
+    record[..3].copy_from_slice(&id.to_be_bytes()[1..]);
+    record[3] = instance;
+    record[4] = read;
+    let value = if read == UNREAD { 0 } else { word };
+    record[8..].copy_from_slice(&value.to_be_bytes());
+    record
 }

@@ -1,7 +1,7 @@
 //! The fast implementation agrees with the reference.
 
 use reference::generate::{self, Case, Random, Sizes, HIGHEST_NUMBER};
-use reference::{address, cases, check, fast, isolate, large, Accepted};
+use reference::{address, cases, check, fast, isolate, large, report, Accepted};
 
 fn compare_isolation(case: &Case) -> u8 {
     let mut expected_list = vec![0xEE; case.room];
@@ -25,6 +25,22 @@ fn compare_isolation(case: &Case) -> u8 {
     expected.map_or_else(|refusal| refusal.number, |_| 0)
 }
 
+/// With a text that has room for the answer or not.
+fn compare_report(random: &mut Random, case: &Case) {
+    let readings_file = generate::readings_file(random, case);
+    let expected = report(&case.file, case.attention_type, &readings_file);
+    let room = match random.below(3) {
+        0 => random.below(expected.len() + 1),
+        _ => expected.len() + random.below(9),
+    };
+    let mut text = vec![0xEE; room];
+    let length = fast::report(&case.file, case.attention_type, &readings_file, &mut text);
+    assert_eq!(length, expected.len());
+    let (there, beyond) = text.split_at(length.min(room));
+    assert_eq!(there, &expected.as_bytes()[..there.len()]);
+    assert!(beyond.iter().all(|&byte| byte == 0xEE));
+}
+
 #[test]
 fn hand_made_cases() {
     for case in cases::all() {
@@ -46,6 +62,7 @@ fn random_cases() {
         };
         assert_eq!(fast::check(&case.file), check(&case.file));
         seen[usize::from(compare_isolation(&case))] += 1;
+        compare_report(&mut random, &case);
     }
     assert!(seen.iter().all(|&count| count >= 200), "{seen:?}");
 }
@@ -57,6 +74,12 @@ fn large_cases() {
         let case = generate::large_case(&mut random);
         assert_eq!(fast::check(&case.file), check(&case.file));
         compare_isolation(&case);
+        compare_report(&mut random, &case);
+    }
+    for _ in 0..60 {
+        let case = generate::full_list_case(&mut random);
+        compare_isolation(&case);
+        compare_report(&mut random, &case);
     }
 }
 

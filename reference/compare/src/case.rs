@@ -1,11 +1,13 @@
-//! Cases for all three functions: seeded, and as text.
+//! Cases for all four functions: seeded, and as text.
 
 use std::fmt::Write;
 
 use reference::generate::{self, Random, Sizes, HIGHEST_NUMBER};
-use reference::{cases, hex, large, Accepted};
+use reference::{cases, hex, large, report, Accepted};
 
-/// All that the three functions are lent.
+use crate::proved::TEXT_BYTES;
+
+/// All that the four functions are lent.
 #[derive(Clone, Debug, PartialEq, Eq)]
 pub struct Case {
     /// File, attention type, readings and the length of the list.
@@ -15,6 +17,10 @@ pub struct Case {
     pub instance: u8,
     /// Places of `out`.
     pub places: usize,
+    /// The readings file of the report.
+    pub readings_file: Vec<u8>,
+    /// The length of the report's text.
+    pub text: usize,
 }
 
 impl Case {
@@ -23,7 +29,8 @@ impl Case {
         let start = Random::new(Random::new(seed).next() ^ number).next();
         let random = &mut Random::new(start);
         let mut isolation = match random.below(100) {
-            0..=39 => generate::case(random),
+            0..=38 => generate::case(random),
+            39 => generate::full_list_case(random),
             40..=89 => {
                 let aim = random.between(0, HIGHEST_NUMBER.into()) as u8;
                 generate::aimed_case(random, aim, Sizes::Any)
@@ -39,11 +46,16 @@ impl Case {
             0 => random.below(8),
             _ => random.between(8, 12),
         };
+        let readings_file = generate::readings_file(random, &isolation);
+        let whole = report(&isolation.file, isolation.attention_type, &readings_file);
+        let text = text_length(random, whole.len());
         Case {
             isolation,
             id,
             instance,
             places,
+            readings_file,
+            text,
         }
     }
 
@@ -60,6 +72,7 @@ impl Case {
             ("file", &isolation.file),
             ("words", &words),
             ("read", &isolation.read),
+            ("readings", &self.readings_file),
         ] {
             writeln!(text, "{name} {}", hex::encode(bytes)).expect("a String takes all text");
         }
@@ -69,6 +82,7 @@ impl Case {
             ("id", self.id),
             ("instance", u64::from(self.instance)),
             ("places", self.places as u64),
+            ("text", self.text as u64),
         ] {
             writeln!(text, "{name} {number}").expect("a String takes all text");
         }
@@ -76,7 +90,7 @@ impl Case {
     }
 
     /// The case of such lines, or the first line that is none. A part without
-    /// a line is empty or 0; `places` is then 8.
+    /// a line is empty or 0; `places` is then 8 and `text` 152000.
     pub fn from_text(text: &str) -> Result<Self, String> {
         let mut case = Case {
             isolation: generate::Case {
@@ -89,6 +103,8 @@ impl Case {
             id: 0,
             instance: 0,
             places: 8,
+            readings_file: Vec::new(),
+            text: TEXT_BYTES,
         };
         for line in text.lines().filter(|line| !line.trim().is_empty()) {
             case.set(line.trim()).ok_or(line)?;
@@ -114,6 +130,8 @@ impl Case {
             "id" => self.id = value.parse().ok()?,
             "instance" => self.instance = value.parse().ok()?,
             "places" => self.places = value.parse().ok()?,
+            "readings" => self.readings_file = hex::decode(value)?,
+            "text" => self.text = value.parse().ok()?,
             _ => return None,
         }
         Some(())
@@ -197,6 +215,19 @@ fn mix_in_faults(random: &mut Random, case: &mut generate::Case) {
     }
 }
 
+/// The length of a text for so many bytes, now and then too short.
+fn text_length(random: &mut Random, whole: usize) -> usize {
+    match random.below(32) {
+        0 => 0,
+        1 | 2 => random.below(whole),
+        3 | 4 => whole - 1,
+        5 | 6 => whole,
+        7 => whole + 1,
+        8 => TEXT_BYTES,
+        _ => whole + random.below(200),
+    }
+}
+
 /// A register instance of the file, or one that is not there.
 fn register_name(random: &mut Random, file: &[u8]) -> (u64, u8) {
     let (mut id, mut instance) = match Accepted::read(file) {
@@ -235,7 +266,14 @@ mod tests {
     #[test]
     fn text_that_is_no_case() {
         for line in [
-            "file 0", "words 00", "type 256", "room 1", "id -1", "places",
+            "file 0",
+            "words 00",
+            "type 256",
+            "room 1",
+            "id -1",
+            "places",
+            "readings 0",
+            "text -1",
         ] {
             assert_eq!(Case::from_text(line), Err(line.to_string()));
         }

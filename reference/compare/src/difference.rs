@@ -4,17 +4,20 @@
 use std::fmt;
 
 use reference::vectors::{address_of_any, expected_of_check, expected_of_pair};
-use reference::{check, isolate};
+use reference::{check, isolate, report};
 
 use crate::case::Case;
 use crate::proved::{self, ADDRESS_PLACES, CHECK_PLACES, ISOLATE_PLACES};
 
-/// The numbers of the three outcomes, 0 for success.
+/// The numbers of the four outcomes, 0 for success.
 #[derive(Clone, Copy, Debug, PartialEq, Eq)]
 pub struct Outcomes {
     pub check: u8,
     pub address: u8,
     pub isolate: u8,
+    pub report: u8,
+    /// The text was too short for the report.
+    pub cut: bool,
 }
 
 #[derive(Clone, Debug, PartialEq, Eq)]
@@ -123,7 +126,7 @@ fn same_numbers(call: &'static str, proved: &[u64], reference: &[u64]) -> Result
     })
 }
 
-fn same_list(proved: &Lent, reference: &Lent) -> Result<(), Difference> {
+fn same_bytes(call: &'static str, proved: &Lent, reference: &Lent) -> Result<(), Difference> {
     let mut pairs = proved.bytes.iter().zip(&reference.bytes);
     let Some(at) = pairs.position(|(proved, reference)| proved != reference) else {
         return Ok(());
@@ -138,7 +141,7 @@ fn same_list(proved: &Lent, reference: &Lent) -> Result<(), Difference> {
         )
     };
     Err(Difference {
-        call: "the list after isolate",
+        call,
         proved: show(proved),
         reference: show(reference),
     })
@@ -147,10 +150,16 @@ fn same_list(proved: &Lent, reference: &Lent) -> Result<(), Difference> {
 /// The outcomes, if nothing differs.
 pub fn compare(case: &Case) -> Result<Outcomes, Difference> {
     let file = Lent::new(&case.isolation.file);
+    let check = compare_check(case, &file)?;
+    let address = compare_address(case, &file)?;
+    let isolate = compare_isolate(case, &file)?;
+    let (report, cut) = compare_report(case, &file)?;
     Ok(Outcomes {
-        check: compare_check(case, &file)?,
-        address: compare_address(case, &file)?,
-        isolate: compare_isolate(case, &file)?,
+        check,
+        address,
+        isolate,
+        report,
+        cut,
     })
 }
 
@@ -200,23 +209,61 @@ fn compare_isolate(case: &Case, file: &Lent) -> Result<u8, Difference> {
     // Without places for its answer the call may as well do nothing.
     let idle = case.places < ISOLATE_PLACES && list.bytes == Lent::patterned(isolation.room).bytes;
     if !idle {
-        same_list(&list, &expected_list)?;
+        same_bytes("the list after isolate", &list, &expected_list)?;
     }
     Ok(answer[0] as u8)
+}
+
+/// The number of the outcome, and whether the text was too short for it.
+fn compare_report(case: &Case, file: &Lent) -> Result<(u8, bool), Difference> {
+    let attention_type = case.isolation.attention_type;
+    let answer = report::find(&case.isolation.file, attention_type, &case.readings_file);
+    let whole = report::text(&answer);
+    let mut expected_text = Lent::patterned(case.text);
+    let first_part = whole.len().min(case.text);
+    expected_text.part_mut()[..first_part].copy_from_slice(&whole.as_bytes()[..first_part]);
+
+    let readings_file = Lent::new(&case.readings_file);
+    let mut text = Lent::patterned(case.text);
+    let length = proved::report(
+        file.part(),
+        attention_type,
+        readings_file.part(),
+        text.part_mut(),
+    );
+    if length != whole.len() {
+        return Err(Difference {
+            call: "the length of the report",
+            proved: length.to_string(),
+            reference: whole.len().to_string(),
+        });
+    }
+    same_bytes("the text after report", &text, &expected_text)?;
+    let number = answer.map_or_else(|refusal| refusal.number, |_| 0);
+    Ok((number, case.text < whole.len()))
 }
 
 #[cfg(test)]
 mod tests {
     use super::*;
+    use reference::generate::HIGHEST_NUMBER;
 
     #[test]
     fn the_proved_library_agrees() {
+        let mut reported = [0; HIGHEST_NUMBER as usize + 1];
+        let mut cut = 0;
         for number in 0..2_000 {
             let case = Case::seeded(1, number);
-            if let Err(difference) = compare(&case) {
-                panic!("{difference}\n{}", case.to_text());
+            match compare(&case) {
+                Ok(outcomes) => {
+                    reported[usize::from(outcomes.report)] += 1;
+                    cut += usize::from(outcomes.cut);
+                }
+                Err(difference) => panic!("{difference}\n{}", case.to_text()),
             }
         }
+        assert!(reported.iter().all(|&cases| cases > 0), "{reported:?}");
+        assert!(cut >= 100, "{cut}");
     }
 
     #[test]

@@ -1,4 +1,4 @@
-//! The proved library's three functions.
+//! The proved library's four functions.
 //!
 //! Each takes any input: none has a precondition. `out` gets the answer as
 //! 64-bit numbers, the first two being the number of the refusal (0: none) and
@@ -11,6 +11,8 @@ pub const CHECK_PLACES: usize = 8;
 pub const ADDRESS_PLACES: usize = 4;
 /// Number, place, records, steps.
 pub const ISOLATE_PLACES: usize = 4;
+/// A text of so many bytes has room for every answer of the report.
+pub const TEXT_BYTES: usize = 152_000;
 
 extern "C" {
     fn lutemarble_check(file: *const u8, file_len: usize, out: *mut u64, out_len: usize);
@@ -37,6 +39,16 @@ extern "C" {
         out: *mut u64,
         out_len: usize,
     );
+
+    fn lutemarble_report(
+        file: *const u8,
+        file_len: usize,
+        attention: u8,
+        readings: *const u8,
+        readings_len: usize,
+        text: *mut u8,
+        text_len: usize,
+    ) -> usize;
 }
 
 /// An `out` of fewer than [`CHECK_PLACES`] places keeps what it has.
@@ -84,6 +96,23 @@ pub fn isolate(
             list.len(),
             out.as_mut_ptr(),
             out.len(),
+        )
+    }
+}
+
+/// The text goes to the front of `text`, as much of it as that has room for.
+/// Returns the length of the whole.
+pub fn report(file: &[u8], attention_type: u8, readings_file: &[u8], text: &mut [u8]) -> usize {
+    // SAFETY: as above.
+    unsafe {
+        lutemarble_report(
+            file.as_ptr(),
+            file.len(),
+            attention_type,
+            readings_file.as_ptr(),
+            readings_file.len(),
+            text.as_mut_ptr(),
+            text.len(),
         )
     }
 }

@@ -9,11 +9,12 @@ use crate::checker::Accepted;
 use crate::isolation::{isolate, RECORD_BYTES};
 use crate::large;
 use crate::layout::{
-    EXPRESSION_AND, EXPRESSION_NOT, MAX_EXPRESSION_LEVEL, MAX_FILE_BYTES, MAX_NODE_INSTANCES,
-    MAX_REGISTER_INSTANCES, READABLE,
+    EXPRESSION_AND, EXPRESSION_NOT, HIGHEST_BIT, MAX_EXPRESSION_LEVEL, MAX_FILE_BYTES,
+    MAX_NODE_INSTANCES, MAX_REGISTER_INSTANCES, READABLE,
 };
 use crate::readings::{READ, UNREAD};
 use crate::refusal;
+use crate::report::LIST_RECORDS;
 
 /// The highest number of a refusal.
 pub const HIGHEST_NUMBER: u8 = refusal::NO_ROOM;
@@ -428,6 +429,37 @@ pub fn large_case(random: &mut Random) -> Case {
     }
 }
 
+/// A row of 256 node instances with about as many active bits without a child
+/// as the station's list holds records.
+pub fn full_list_case(random: &mut Random) -> Case {
+    let records = match random.below(4) {
+        0 => LIST_RECORDS,
+        1 => LIST_RECORDS + 1,
+        _ => random.between(LIST_RECORDS - 100, LIST_RECORDS + 100),
+    };
+    // Bit 0 has the child of each instance but the last in the row, of which it
+    // is not active.
+    let backward = random.one_in(2);
+    let mut words = vec![1 << HIGHEST_BIT; MAX_NODE_INSTANCES];
+    words[if backward { 0 } else { MAX_NODE_INSTANCES - 1 }] = 0;
+    let mut left = records;
+    while left > 0 {
+        let word = random.pick_mut(&mut words);
+        let bit = 1 << random.below(HIGHEST_BIT.into());
+        if *word & bit == 0 {
+            *word |= bit;
+            left -= 1;
+        }
+    }
+    Case {
+        file: large::children(1, backward),
+        attention_type: large::ATTENTION_TYPE,
+        words,
+        read: vec![READ; MAX_NODE_INSTANCES],
+        room: records * RECORD_BYTES - random.below(2) + random.below(9),
+    }
+}
+
 #[cfg(test)]
 mod tests {
     use super::*;
@@ -454,5 +486,20 @@ mod tests {
                 assert!(met >= 30, "{met} of 150 for {number} {sizes:?}");
             }
         }
+    }
+
+    #[test]
+    fn about_a_full_list() {
+        let mut random = Random::new(20);
+        let mut seen = [0; 3];
+        for _ in 0..60 {
+            let case = full_list_case(&mut random);
+            let records = exact_room(&case) / RECORD_BYTES;
+            assert!(records.abs_diff(LIST_RECORDS) <= 100, "{records}");
+            if let Some(seen) = seen.get_mut((records + 1).wrapping_sub(LIST_RECORDS)) {
+                *seen += 1;
+            }
+        }
+        assert!(seen[1] > 3 && seen[2] > 3, "{seen:?}");
     }
 }

@@ -6,7 +6,7 @@ use std::time::{Duration, Instant};
 
 use compare::proved;
 use reference::vectors::{expected_of_check, expected_of_pair, EXPECTED};
-use reference::{fast, large, Refusal};
+use reference::{fast, large, readings, Accepted, Refusal};
 
 /// One measurement repeats a call for at least so long.
 const SHORTEST: Duration = Duration::from_micros(500);
@@ -36,7 +36,7 @@ fn answer_of(out: &[u64]) -> Answer {
 fn check<'a>(name: &str, file: &'a [u8]) -> Job<'a> {
     let mut out = [0; proved::CHECK_PLACES];
     Job {
-        name: format!("check, {name}"),
+        name: format!("check of {name}"),
         proved: Box::new(move || {
             proved::check(black_box(file), &mut out);
             answer_of(&out)
@@ -49,7 +49,7 @@ fn check<'a>(name: &str, file: &'a [u8]) -> Job<'a> {
 fn address<'a>(name: &str, file: &'a [u8], id: u32) -> Job<'a> {
     let mut out = [0; proved::ADDRESS_PLACES];
     Job {
-        name: format!("address, {name}"),
+        name: format!("address of {name}"),
         proved: Box::new(move || {
             proved::address(black_box(file), u64::from(id), 0, &mut out);
             answer_of(&out)
@@ -81,7 +81,7 @@ fn isolate<'a>(name: &str, file: &'a [u8], words: &'a [u64], read: &'a [u8]) -> 
     let mut out = [0; proved::ISOLATE_PLACES];
     let mut list = vec![0; 16_384 * 8];
     Job {
-        name: format!("isolate, {name}"),
+        name: format!("isolation on {name}"),
         proved: Box::new(move || {
             proved::isolate(
                 black_box(file),
@@ -97,6 +97,55 @@ fn isolate<'a>(name: &str, file: &'a [u8], words: &'a [u64], read: &'a [u8]) -> 
         reference: Box::new(by_rust(reference::isolate)),
         fast: Box::new(by_rust(fast::isolate)),
     }
+}
+
+/// The answer is the length of the text; the texts are compared here.
+fn report<'a>(name: &str, file: &'a [u8], readings_file: &'a [u8]) -> Job<'a> {
+    let mut text = vec![0; proved::TEXT_BYTES];
+    let mut fast_text = text.clone();
+    let clear_text = reference::report(file, large::ATTENTION_TYPE, readings_file);
+    let length = proved::report(file, large::ATTENTION_TYPE, readings_file, &mut text);
+    assert!(text[..length] == *clear_text.as_bytes(), "{name}");
+    let length = fast::report(file, large::ATTENTION_TYPE, readings_file, &mut fast_text);
+    assert!(fast_text[..length] == *clear_text.as_bytes(), "{name}");
+    Job {
+        name: format!("report on {name}"),
+        proved: Box::new(move || {
+            let length = proved::report(
+                black_box(file),
+                large::ATTENTION_TYPE,
+                black_box(readings_file),
+                &mut text,
+            );
+            black_box(&mut text);
+            answer_of(&[length as u64])
+        }),
+        reference: Box::new(move || {
+            let text = reference::report(
+                black_box(file),
+                large::ATTENTION_TYPE,
+                black_box(readings_file),
+            );
+            answer_of(&[black_box(text).len() as u64])
+        }),
+        fast: Box::new(move || {
+            let length = fast::report(
+                black_box(file),
+                large::ATTENTION_TYPE,
+                black_box(readings_file),
+                &mut fast_text,
+            );
+            black_box(&mut fast_text);
+            answer_of(&[length as u64])
+        }),
+    }
+}
+
+/// The readings file of a file whose registers all have these bits.
+fn readings_file(file: &[u8], bits: u64) -> Vec<u8> {
+    let accepted = Accepted::read(file).expect("the file is accepted");
+    let instances = accepted.tree.register_instances.len();
+    readings::encode(&accepted.tree, &vec![bits; instances], &vec![1; instances])
 }
 
 /// How long so many calls take.
@@ -158,7 +207,7 @@ fn run(mut job: Job<'_>) -> bool {
     }
     let [proved, reference, fast] = times.each_mut().map(|times| median(times));
     println!(
-        "{:<52} {:>9.2} {:>9.2} {:>7}",
+        "{:<62} {:>9.2} {:>9.2} {:>7}",
         job.name,
         proved / fast,
         proved / reference,
@@ -171,10 +220,10 @@ fn main() {
     println!("Ratios of median times: the proved library's by that of ordinary fast Rust, and by");
     println!("that of the clear reference. All calls of a job are taken in turn in one run.");
     println!("No buffer is cleared before a call: each call meets the list and the answer of the");
-    println!("one before it. The list has room for 16,384 records.");
+    println!("one before it. The list has room for 16,384 records, the text for 152,000 bytes.");
     println!();
     println!(
-        "{:<52} {:>9} {:>9} {:>7}",
+        "{:<62} {:>9} {:>9} {:>7}",
         "job", "to fast", "to clear", "rounds"
     );
 
@@ -191,44 +240,55 @@ fn main() {
     let all_bits = [u64::MAX; 1_024];
     let read = [1u8; 1_024];
 
+    let full = large::full_counts();
+    let b1_readings = readings_file(&large::B1, top_bit[0]);
+    let full_readings = readings_file(&full, all_bits[0]);
+
     let jobs = vec![
-        check("sample B1", &large::B1),
-        check("1,024 registers of one instance", &registers),
-        check("1,024 instances of five registers", &few_registers),
-        check("256 nodes of one instance", &nodes),
-        check("65,536 bytes, most of them captures", &captures),
-        check("65,536 bytes of deep expressions", &deep),
-        check("a row of 256, children forward", &row),
-        check("a row of 256, children backward", &backward_row),
-        check("256 instances, 60 children each, forward", &forward),
-        check("256 instances, 60 children each, backward", &backward),
-        address("the last of 1,024 registers", &registers, 1_024),
-        isolate("sample B1", &large::B1, &top_bit[..1], &read[..1]),
+        check("a file at the limits, most of it captures", &captures),
+        check("a file at the limits, deep expressions", &deep),
         isolate(
-            "a row of 256, one record",
+            "a 256-instance file, a row, one record",
             &row,
             &top_bit[..256],
             &read[..256],
         ),
         isolate(
-            "a row of 256 backward, one record",
+            "a 256-instance file, a row, 16,129 records",
+            &row,
+            &all_bits[..256],
+            &read[..256],
+        ),
+        isolate(
+            "a 256-instance file, a row backward, one record",
             &backward_row,
             &top_bit[..256],
             &read[..256],
         ),
         isolate(
-            "a row of 256, 16,129 records",
-            &row,
-            &all_bits[..256],
-            &read[..256],
-        ),
-        isolate(
-            "256 instances, 60 children each, backward",
+            "a 256-instance file, 60 children each, backward",
             &backward,
             &all_bits[..256],
             &read[..256],
         ),
-        isolate("65,536 bytes of deep expressions", &deep, &all_bits, &read),
+        isolate(
+            "a 256-instance file, deep expressions",
+            &deep,
+            &all_bits,
+            &read,
+        ),
+        isolate("B1", &large::B1, &top_bit[..1], &read[..1]),
+        report("B1", &large::B1, &b1_readings),
+        report("255 instances, 4,096 records", &full, &full_readings),
+        check("B1", &large::B1),
+        check("1,024 registers of one instance", &registers),
+        check("1,024 instances of five registers", &few_registers),
+        check("256 nodes of one instance", &nodes),
+        check("a row of 256, children forward", &row),
+        check("a row of 256, children backward", &backward_row),
+        check("256 instances, 60 children each, forward", &forward),
+        check("256 instances, 60 children each, backward", &backward),
+        address("the last of 1,024 registers", &registers, 1_024),
     ];
     let mut agree = true;
     for job in jobs {

@@ -77,6 +77,8 @@ fn run(numbers: &[&str], trace: bool) -> ExitCode {
     let mut checked = [0u64; HIGHEST_NUMBER as usize + 1];
     let mut queried = checked;
     let mut isolated = checked;
+    let mut reported = checked;
+    let mut cut = 0u64;
     for number in 0..cases {
         if trace {
             eprintln!("case {number}");
@@ -87,6 +89,8 @@ fn run(numbers: &[&str], trace: bool) -> ExitCode {
                 checked[usize::from(outcomes.check)] += 1;
                 queried[usize::from(outcomes.address)] += 1;
                 isolated[usize::from(outcomes.isolate)] += 1;
+                reported[usize::from(outcomes.report)] += 1;
+                cut += u64::from(outcomes.cut);
             }
             Err(difference) => {
                 println!("case {number} of seed {seed}: {difference}");
@@ -98,11 +102,12 @@ fn run(numbers: &[&str], trace: bool) -> ExitCode {
     }
 
     println!("cases {cases} seed {seed}, no difference");
-    println!("number check address isolate");
+    println!("reports with a text too short for them {cut}");
+    println!("number check address isolate report");
     for number in 0..checked.len() {
         println!(
-            "{number} {} {} {}",
-            checked[number], queried[number], isolated[number]
+            "{number} {} {} {} {}",
+            checked[number], queried[number], isolated[number], reported[number]
         );
     }
     ExitCode::SUCCESS
