@@ -1,9 +1,8 @@
 -- What an expression means does not depend on how many levels are left, as long as they are enough; and those of an accepted file are.
 use Prim.Native.Nat.{ℕ, zero, suc, _≤_}
-use mathlib.Core.List.{List, [], _∷_}
 use mathlib.Core.Path.{_≡_, refl, ap}
 use native.Mathlib.Omega.{arith}
-use Rattle.numbers.specs.Bits.{Bits, bitOf, wordOf, notBits, andBits, orBits, leftBits, rightBits}
+use Rattle.numbers.specs.Bits.{wordOf, notBits, leftBits, rightBits}
 use Rattle.format.specs.Limits.{levels}
 use Rattle.format.specs.Meaning.{bitsOf, everyBit, someBit, valueOf, everyOperand, someOperand, bitsWithin, valueWithin}
 use Rattle.format.specs.Rules.{depth, depths, Every, allRules, Meets}

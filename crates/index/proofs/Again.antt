@@ -1,13 +1,12 @@
 -- An element that was read is read again, field by field, without what stood before it.
 use Prim.Native.Nat.{ℕ}
 use mathlib.Core.Bool.{true}
-use mathlib.Core.List.{List, [], map}
-use mathlib.Core.Path.{_≡_, refl, sym, _∙_, ap}
-use lib.ListN.{length}
+use mathlib.Core.List.{List, []}
+use mathlib.Core.Path.{_≡_, refl, _∙_, ap}
 use Rattle.format.specs.Limits.{nodeLimit}
 use lib.Dec.{ltb}
 use Rattle.format.specs.Fields.{fieldAt, keywordAt, countAt, addressSize, fresh, member}
-use Rattle.format.specs.Parsed.{Parsed, done, refused, andThen, making, requiring, rowAt}
+use Rattle.format.specs.Parsed.{Parsed, done, refused, andThen, making, rowAt}
 use Rattle.format.specs.RegisterLayout.{RegisterHead, registerInstanceAt, registerHeadAt}
 use Rattle.format.specs.NodeLayout.{NodeHead, instanceHeadAt, nodeInstanceAt, nodeHeadAt}
 use Rattle.format.specs.Tree.{RegisterInstance, NodeInstance}

@@ -1,15 +1,14 @@
 -- What was read in a nodes section is read again at its place.
-use Prim.Native.Nat.{ℕ, zero, suc, _<_}
+use Prim.Native.Nat.{ℕ, zero, suc}
 use mathlib.Core.Bool.{true}
-use mathlib.Core.List.{List, [], _∷_, map}
-use mathlib.Core.Path.{_≡_, refl, sym, _∙_, ap, subst}
-use Rattle.format.specs.Limits.{node}
-use Rattle.format.specs.Lookup.{NodeEntry, nodeEntriesOf, gathered}
-use Rattle.format.specs.NodeLayout.{nodeTotal, nodeInstanceAt, nodeAt, nodesAt}
+use mathlib.Core.List.{List, [], _∷_}
+use mathlib.Core.Path.{_≡_, ap, subst}
+use Rattle.format.specs.Lookup.{nodeEntriesOf, gathered}
+use Rattle.format.specs.NodeLayout.{nodeInstanceAt, nodeAt, nodesAt}
 use Rattle.format.specs.Parsed.{Parsed, done, rowAt}
 use Rattle.format.specs.Rules.{Every}
 use Rattle.format.specs.Tree.{NodeInstance, Node}
-use Rattle.format.proofs.EveryLaws.{every-map, every-list-in, every-gathered-in}
+use Rattle.format.proofs.EveryLaws.{every-list-in, every-gathered-in}
 use Rattle.format.proofs.ParsedLaws.{then-out, making-out}
 use Rattle.index.specs.Rows.{ReadAgain}
 use Rattle.index.proofs.Again.{node-instance-again, done-out}

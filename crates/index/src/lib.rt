@@ -1,6 +1,6 @@
 // Tables of a file whose layout was read: a row for each register instance and for each node instance, in file order.
 ghost use mathlib.Core.Path.{_≡_};
-ghost use Rattle.index.specs.Rows.{Row, Rows, putRow};
+ghost use Rattle.index.specs.Rows.{Rows, putRow};
 
 pub mod node_rows;
 pub mod register_rows;

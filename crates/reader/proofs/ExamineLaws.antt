@@ -7,7 +7,6 @@ use Rattle.format.specs.Cycles.{cycleFaults}
 use Rattle.format.specs.FileLayout.{fileAt}
 use Rattle.format.specs.Parsed.{Parsed, done, refused, making}
 use Rattle.format.specs.References.{Fault, referenceFaults}
-use Rattle.format.specs.Refusals.{CheckValues}
 use Rattle.format.specs.Tree.{Chip}
 use Rattle.format.specs.Verdict.{judged, verdict}
 use Rattle.tables.specs.Faults.{judgedAt}

@@ -1,12 +1,11 @@
 -- The faults that the tables show are those of the file.
 use Prim.Native.Nat.{ℕ}
 use mathlib.Core.Bool.{true}
-use mathlib.Core.List.{List, [], _∷_, _++_, map}
-use mathlib.Core.Path.{_≡_, refl, sym, _∙_, ap}
+use mathlib.Core.List.{List, map}
+use mathlib.Core.Path.{_≡_, sym, _∙_, ap}
 use Rattle.numbers.proofs.BigEndianLaws.{Bytes}
 use Rattle.format.specs.FileLayout.{rootsAt, fileAt}
-use Rattle.format.specs.Lookup.{gathered, NodeEntry, nodeEntries, nodeEntriesOf}
-use Rattle.format.specs.NodeLayout.{nodesAt}
+use Rattle.format.specs.Lookup.{gathered, NodeEntry, nodeEntries}
 use Rattle.format.specs.Parsed.{Parsed, done, refused}
 use Rattle.format.specs.References.{instanceFaults, rootFaults, referenceFaults}
 use Rattle.format.specs.Rules.{Every}

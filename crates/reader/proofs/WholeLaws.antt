@@ -1,7 +1,7 @@
 -- A whole file's layout and the file's verdict.
 use Prim.Native.Nat.{ℕ, _≤_, _<_}
 use mathlib.Core.Bool.{Bool, true, false}
-use mathlib.Core.List.{List, [], _∷_, _++_}
+use mathlib.Core.List.{List, _++_}
 use mathlib.Core.Path.{_≡_, refl, sym, _∙_, ap}
 use lib.Dec.{leb}
 use lib.ListN.{length}
@@ -10,14 +10,12 @@ use Rattle.format.specs.Limits.{fileLimit}
 use Rattle.format.specs.Cycles.{cycleFaults}
 use Rattle.format.specs.FileLayout.{fileAt}
 use Rattle.format.specs.Parsed.{Parsed, done, refused, andThen, making, require}
-use Rattle.format.specs.References.{Fault, referenceFaults}
-use Rattle.format.specs.Refusals.{CheckValues}
+use Rattle.format.specs.References.{referenceFaults}
 use Rattle.format.specs.Tree.{Chip}
 use Rattle.format.specs.Verdict.{judged, verdict}
 use Rattle.format.proofs.ParsedLaws.{never, then-out, require-out}
 use Rattle.index.proofs.Again.{done-out}
 use Rattle.fields.proofs.Parsing.{missed}
-use Rattle.tables.specs.Faults.{judgedAt}
 use Rattle.reader.specs.Layout.{Summary, layoutAt, wholeAt, layoutValues, chipValues}
 use Rattle.reader.proofs.LayoutLaws.{layout-file, Sections, sections}
 

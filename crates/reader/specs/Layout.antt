@@ -5,7 +5,7 @@ use mathlib.Core.List.{List}
 use lib.ListN.{length}
 use lib.Dec.{leb}
 use Rattle.format.specs.Limits.{fileLimit}
-use Rattle.format.specs.Parsed.{Parsed, done, refused, andThen, making, require}
+use Rattle.format.specs.Parsed.{Parsed, done, andThen, making, require}
 use Rattle.format.specs.RegisterLayout.{registerTotal, registersAt}
 use Rattle.format.specs.NodeLayout.{nodeTotal, nodesAt}
 use Rattle.format.specs.FileLayout.{startAt, rootsAt}

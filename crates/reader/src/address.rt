@@ -8,7 +8,6 @@ use format::Refusal;
 use index::register_rows::fill_registers;
 use rules::name_position;
 use tables::entry;
-ghost use Prim.Native.Nat.{ℕ};
 ghost use mathlib.Core.Bool.{true};
 ghost use mathlib.Core.Path.{_≡_};
 ghost use lib.ListN.{take, drop};

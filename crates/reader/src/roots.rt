@@ -14,7 +14,7 @@ ghost use mathlib.Core.Bool.{true};
 ghost use mathlib.Core.List.{List, [], map};
 ghost use mathlib.Core.Path.{_≡_};
 ghost use lib.ListN.{length};
-ghost use Rattle.format.specs.Parsed.{making, requiring, rowAt};
+ghost use Rattle.format.specs.Parsed.{making, rowAt};
 ghost use Rattle.format.specs.Tree.{Root};
 ghost use Rattle.format.specs.FileLayout.{startAt, rootAt, rootsAt};
 ghost use Rattle.fields.specs.Seen.{unmarked, Tells};

@@ -1,6 +1,6 @@
 -- Judging elements in a row, one after another.
 use Prim.Native.Nat.{ℕ, _-_, _≤_, _<_}
-use mathlib.Core.List.{List, [], _∷_, _++_}
+use mathlib.Core.List.{List, [], _∷_}
 use mathlib.Core.Path.{_≡_, refl, sym, _∙_, ap}
 use Rattle.format.specs.Lookup.{gathered}
 use Rattle.format.specs.Parsed.{Parsed, done, refused, rowAt}

@@ -14,7 +14,6 @@ use Rattle.format.specs.Fields.{fieldAt, countAt, typeAt, flagsAt, addressSize,
 use Rattle.registers.specs.declared.RegisterHead as declared
 use Rattle.registers.specs.declared.RegisterHeadRead
 use Rattle.registers.specs.declared.RegisterHeadRead.{RegisterHeadRead}
-use Rattle.fields.specs.declared.NumberRead
 use Rattle.format.specs.Tree.{RegisterInstance, Register}
 use Rattle.format.specs.RegisterLayout.{RegisterHead, registerTotal, registerInstanceAt, registerHeadAt, registerAt}
 use Rattle.fields.specs.Seen.{unmarked, instanceNumberAt, Tells}

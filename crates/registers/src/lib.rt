@@ -5,7 +5,6 @@ use fields::ElementRead;
 use fields::NextRead;
 use fields::NumberRead;
 use fields::SectionRead;
-use fields::byte_at;
 use fields::byte_count_at;
 use fields::flags_at;
 use fields::keyword_at;

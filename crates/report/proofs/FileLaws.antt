@@ -1,11 +1,11 @@
 -- The laws of isolation with a readings file.
 use Prim.Native.Nat.{ℕ, _/_, _≤_, _<_}
-use mathlib.Core.Bool.{Bool, true, false, cond, _&&_}
-use mathlib.Core.List.{List, [], _∷_, _++_, map}
+use mathlib.Core.Bool.{Bool, true, false, cond}
+use mathlib.Core.List.{List, [], _∷_}
 use mathlib.Core.Path.{_≡_, refl, sym, _∙_, ap}
 use native.Mathlib.Omega.{arith}
 use borrow.Author.Tests.{le-leb, ne-eqb, leb-true}
-use lib.Dec.{eqb, leb}
+use lib.Dec.{leb}
 use lib.ListN.{length, take, drop, replicate, length-append, length-map, length-replicate}
 use lib.Seq.{take-at}
 use Rattle.numbers.proofs.BigEndianLaws.{Bytes}
@@ -26,7 +26,7 @@ use Rattle.readings.proofs.RecordLaws.{each-length}
 use Rattle.isolation.specs.Readings.{readingsFit}
 use Rattle.isolation.specs.ChipGraph.{rootFor, chipGraph}
 use Rattle.listing.specs.Records.{recordSize, listing}
-use Rattle.isolation.specs.Outcome.{Outcome, refusedOutcome, doneOutcome, fromRoot, isolateIn, isolate}
+use Rattle.isolation.specs.Outcome.{refusedOutcome, doneOutcome, fromRoot, isolateIn, isolate}
 use Rattle.isolation.proofs.OutcomeLaws.{succeeds-in, succeeds-out}
 use Rattle.isolation.proofs.PreparedLaws.{refused-by, answer-refused}
 use Rattle.report.specs.Report.{fileFromRoot, isolateFileIn, isolateFile}

@@ -1,10 +1,10 @@
 -- The laws of the lines.
 use Prim.Native.Nat.{ℕ, zero, suc, _+_, _*_, _^_, _≤_, _<_}
-use mathlib.Core.List.{List, [], _∷_, _++_, append-assoc, append-nil}
+use mathlib.Core.List.{List, _++_, append-assoc, append-nil}
 use mathlib.Core.Path.{_≡_, refl, sym, _∙_, ap}
 use native.Mathlib.Nat.{add-zero}
 use native.Mathlib.Omega.{arith}
-use lib.Dec.{lit<, lit≤}
+use lib.Dec.{lit≤}
 use lib.ListN.{length, drop, getD, length-append}
 use lib.Seq.{drop-drop}
 use Rattle.numbers.specs.Field.{field}
@@ -12,8 +12,8 @@ use Rattle.numbers.proofs.BigEndianLaws.{Bytes, bytes-drop}
 use Rattle.numbers.proofs.FieldLaws.{field-lt, field-byte, field-two, field-drop}
 use Rattle.listing.specs.Records.{recordSize}
 use Rattle.tables.specs.Tables.{written}
-use Rattle.report.specs.Text.{Put, decimal, named, typeWord, nodeWord, instWord, bitWord, stepsWord, refusedWord, placeWord, lineEnd, bitLine, recordLine, recordLines, stepsLine, refusedLine}
-use Rattle.report.proofs.DecimalLaws.{decimal-short, decimal-few}
+use Rattle.report.specs.Text.{Put, decimal, named, typeWord, nodeWord, instWord, bitWord, lineEnd, bitLine, recordLine, recordLines}
+use Rattle.report.proofs.DecimalLaws.{decimal-short}
 use Rattle.report.proofs.TextLaws.{put-then, put-as}
 
 -- The line of the record at a place, by its bytes.

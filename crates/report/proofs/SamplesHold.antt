@@ -25,8 +25,6 @@ use Rattle.listing.specs.Records.{recordSize, recordOf, recordBytes, listing, l
 use Rattle.numbers.specs.BigEndian.{bigEndian, bytesOf}
 use Rattle.numbers.specs.Bits.{bitOf, wordOf, notBits, andBits, orBits, leftBits, rightBits}
 use Rattle.numbers.specs.Field.{present, field}
-use lib.ListN.{replicate}
-use Rattle.tables.specs.Keys.{registerKeys}
 use Rattle.tables.specs.Tables.{keyOf}
 use Rattle.readings.specs.ReadingsFile.{readByte, valueIn, recordFits, recordsFit, fileFits, eachRecord}
 use Rattle.isolation.specs.Samples as calls

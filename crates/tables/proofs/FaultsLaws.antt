@@ -2,7 +2,7 @@
 use Prim.Native.Nat.{ℕ}
 use mathlib.Core.List.{List, [], _∷_, _++_}
 use mathlib.Core.Path.{_≡_, refl, sym}
-use Rattle.format.specs.Parsed.{Parsed, done, refused}
+use Rattle.format.specs.Parsed.{done, refused}
 use Rattle.format.specs.References.{Fault}
 use Rattle.format.proofs.ParsedLaws.{never}
 use Rattle.tables.specs.Faults.{judgedAt}

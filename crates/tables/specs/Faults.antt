@@ -1,6 +1,6 @@
 -- Refusals 12, 13 and 18 by tables: the keys of the register instances in file order, and for each what a rule's node has to be.
 use Prim.Native.Nat.{ℕ}
-use mathlib.Core.Bool.{Bool, cond}
+use mathlib.Core.Bool.{Bool}
 use mathlib.Core.List.{List, [], _∷_, _++_}
 use lib.Dec.{ltb, eqb}
 use lib.ListN.{length, getD}

@@ -1,10 +1,8 @@
 // The walk over a graph of node instances that two lent tables give: a word of active bits for each instance, and 64 places for the children of each.
 ghost use mathlib.Core.Path.{_≡_};
-ghost use mathlib.Core.Bool.{not};
-ghost use Prim.Native.Nat.{ℕ, _+_, _*_, _<_, _≤_};
-ghost use lib.Dec.{ltb, eqb};
-ghost use lib.ListN.{length, getD};
-ghost use Rattle.numbers.specs.Bits.{bitOf};
+ghost use Prim.Native.Nat.{_+_, _*_, _<_};
+ghost use lib.Dec.{ltb};
+ghost use lib.ListN.{length};
 ghost use Rattle.walk.specs.TableGraph.{sizeOf, childAt, tableGraph};
 ghost use Rattle.walk.specs.Marks.{firstWaiting, stepWalk, started, finished};
 ghost use Rattle.walk.specs.Fold.{orElse, touched, touchedTo};

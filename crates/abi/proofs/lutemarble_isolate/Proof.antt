@@ -1,4 +1,4 @@
-use mathlib.Core.Path.{_≡_, sym, _∙_, ap}
+use mathlib.Core.Path.{_∙_, ap}
 use borrow.Author.Needs.{needs}
 use Rattle.abi.specs.Values.{isolateList}
 use Rattle.abi.proofs.ValuesLaws.{answered-as, refused-four, outcome-as}

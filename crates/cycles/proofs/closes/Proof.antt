@@ -22,17 +22,8 @@ abbrev μ-loop : tie.MeasureT-loop
 loop-holds : tie.Need-loop-holds Inv-loop μ-loop
 loop-holds c = (omega arith, any-none _)
 
-done-parent-requires : tie.Need-done-parent-requires Inv-loop μ-loop
-done-parent-requires c κs = search needs
-
 returns : tie.Need-returns Inv-loop μ-loop
 returns c = sym (any-in _ _ _ (c .before .before .loop-test .taken) (sym (c .before .done-parent .ensures) ∙ c .if1 .taken))
-
-add-j : tie.Need-add-j Inv-loop μ-loop
-add-j c = search needs
-
-loop-less : tie.Need-loop-less Inv-loop μ-loop
-loop-less c = search needs
 
 loop-again : tie.Need-loop-again Inv-loop μ-loop
 loop-again c = (search needs, any-more _ _ (c .before .before .before .loop .inv .1) (sym (c .before .done-parent .ensures) ∙ c .if1 .left))
@@ -49,9 +40,9 @@ closes-spec =
     Inv-loop
     μ-loop
     loop-holds
-    done-parent-requires
+    (λ c κs. search needs)
     returns
-    add-j
-    loop-less
+    (λ c. search needs)
+    (λ c. search needs)
     loop-again
     returns-2)

@@ -18,25 +18,13 @@ Inv-loop rank child n places k₀ k = (k ≤ n * 64) × (any k (risesAt rank n c
 abbrev μ-loop : tie.MeasureT-loop
 μ-loop rank child n places k₀ k = n * 64 - k
 
-mul-places : tie.Need-mul-places Inv-loop μ-loop
-mul-places c = search needs
-
 loop-holds : tie.Need-loop-holds Inv-loop μ-loop
 loop-holds c = (omega arith, any-none _)
-
-rises-requires : tie.Need-rises-requires Inv-loop μ-loop
-rises-requires c κs = search needs
 
 returns : tie.Need-returns Inv-loop μ-loop
 returns c =
     let h : c .before .before .before .loop .k < c .before .before .before .before .before .before .args .n * 64 = omega arith in
     falls-not _ _ _ (any-in _ _ _ h (sym (c .before .rises .ensures) ∙ c .if1 .taken))
-
-add-k : tie.Need-add-k Inv-loop μ-loop
-add-k c = search needs
-
-loop-less : tie.Need-loop-less Inv-loop μ-loop
-loop-less c = search needs
 
 loop-again : tie.Need-loop-again Inv-loop μ-loop
 loop-again c = (search needs, any-more _ _ (c .before .before .before .loop .inv .1) (sym (c .before .rises .ensures) ∙ c .if1 .left))
@@ -52,11 +40,11 @@ falls-spec =
     (tie.spec
     Inv-loop
     μ-loop
-    mul-places
+    (λ c. search needs)
     loop-holds
-    rises-requires
+    (λ c κs. search needs)
     returns
-    add-k
-    loop-less
+    (λ c. search needs)
+    (λ c. search needs)
     loop-again
     returns-2)

@@ -9,26 +9,17 @@ use Rattle.cycles.proofs.RankLaws.{first-falls}
 use Rattle.cycles.proofs.first_cycle.Statement.{statement}
 use Rattle.cycles.proofs.first_cycle.Tie as tie
 
-looked-at-requires : tie.Need-looked-at-requires
-looked-at-requires c κs = search needs
-
 acyclic-requires : tie.Need-acyclic-requires
 acyclic-requires c κs = omega (arith, c .looked-at .ensures, looked-most (c .before .before .args .n))
 
 returns : tie.Need-returns
 returns c = first-falls _ _ (c .before .before .looked-at .ensures) (c .before .acyclic .ensures (c .if1 .taken))
 
-slice-aggregate-mark-all : tie.Need-slice-aggregate-mark-all
-slice-aggregate-mark-all c = search needs
-
 mark-all-requires : tie.Need-mark-all-requires
 mark-all-requires c κs =
     let d = c .before .before .before in
     let h : d .looked-at .result ≤ 256 = omega (arith, d .looked-at .ensures, looked-most (d .before .before .args .n)) in
     (h, h)
-
-slice-aggregate-first-marked : tie.Need-slice-aggregate-first-marked
-slice-aggregate-first-marked c = search needs
 
 first-marked-requires : tie.Need-first-marked-requires
 first-marked-requires c κs =
@@ -46,11 +37,11 @@ pub first-cycle-spec : {M : Type 1} → statement M
 first-cycle-spec =
     tie.close
     (tie.spec
-    looked-at-requires
+    (λ c κs. search needs)
     acyclic-requires
     returns
-    slice-aggregate-mark-all
+    (λ c. search needs)
     mark-all-requires
-    slice-aggregate-first-marked
+    (λ c. search needs)
     first-marked-requires
     returns-2)

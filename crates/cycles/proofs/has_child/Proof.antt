@@ -21,25 +21,10 @@ abbrev μ-loop : tie.MeasureT-loop
 loop-holds : tie.Need-loop-holds Inv-loop μ-loop
 loop-holds c = (omega arith, any-none _)
 
-mul-names-child : tie.Need-mul-names-child Inv-loop μ-loop
-mul-names-child c = search needs
-
-add-names-child : tie.Need-add-names-child Inv-loop μ-loop
-add-names-child c = search needs
-
-names-child-requires : tie.Need-names-child-requires Inv-loop μ-loop
-names-child-requires c κs = search needs
-
 returns : tie.Need-returns Inv-loop μ-loop
 returns c =
     let s = c .before .before .before .before .before in
     sym (edge-in _ _ _ _ _ (s .pre .1) (omega arith) (sym (c .before .names-child .ensures) ∙ c .if1 .taken))
-
-add-b : tie.Need-add-b Inv-loop μ-loop
-add-b c = search needs
-
-loop-less : tie.Need-loop-less Inv-loop μ-loop
-loop-less c = search needs
 
 loop-again : tie.Need-loop-again Inv-loop μ-loop
 loop-again c = (search needs, any-more _ _ (c .before .before .before .loop .inv .1) (sym (c .before .names-child .ensures) ∙ c .if1 .left))
@@ -57,11 +42,11 @@ has-child-spec =
     Inv-loop
     μ-loop
     loop-holds
-    mul-names-child
-    add-names-child
-    names-child-requires
+    (λ c. search needs)
+    (λ c. search needs)
+    (λ c κs. search needs)
     returns
-    add-b
-    loop-less
+    (λ c. search needs)
+    (λ c. search needs)
     loop-again
     returns-2)

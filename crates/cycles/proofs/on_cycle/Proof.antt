@@ -6,17 +6,8 @@ use Rattle.cycles.proofs.TableLaws.{part-length, cycle-found}
 use Rattle.cycles.proofs.on_cycle.Statement.{statement}
 use Rattle.cycles.proofs.on_cycle.Tie as tie
 
-array-share-prefix-active : tie.Need-array-share-prefix-active
-array-share-prefix-active c = search needs
-
 slice-aggregate-run : tie.Need-slice-aggregate-run
 slice-aggregate-run c = part-length _ 256 18446744073709551615 (c .before .before .pre .0)
-
-run-requires : tie.Need-run-requires
-run-requires c κs = search needs
-
-slice-aggregate-closes : tie.Need-slice-aggregate-closes
-slice-aggregate-closes c = search needs
 
 closes-requires : tie.Need-closes-requires
 closes-requires c κs =
@@ -33,9 +24,9 @@ pub on-cycle-spec : {M : Type 1} → statement M
 on-cycle-spec =
     tie.close
     (tie.spec
-    array-share-prefix-active
+    (λ c. search needs)
     slice-aggregate-run
-    run-requires
-    slice-aggregate-closes
+    (λ c κs. search needs)
+    (λ c. search needs)
     closes-requires
     returns)

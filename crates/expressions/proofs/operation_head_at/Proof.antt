@@ -5,24 +5,6 @@ use Rattle.expressions.specs.Heads.{operationHeadAt}
 use Rattle.expressions.proofs.operation_head_at.Statement.{statement}
 use Rattle.expressions.proofs.operation_head_at.Tie as tie
 
-reading-head-at-requires : tie.Need-reading-head-at-requires
-reading-head-at-requires c κs = search needs
-
-constant-head-at-requires : tie.Need-constant-head-at-requires
-constant-head-at-requires c κs = search needs
-
-all-head-at-requires : tie.Need-all-head-at-requires
-all-head-at-requires c κs = search needs
-
-any-head-at-requires : tie.Need-any-head-at-requires
-any-head-at-requires c κs = search needs
-
-left-head-at-requires : tie.Need-left-head-at-requires
-left-head-at-requires c κs = search needs
-
-right-head-at-requires : tie.Need-right-head-at-requires
-right-head-at-requires c κs = search needs
-
 returns : tie.Need-returns
 unfolding operationOf operationHeadAt
 returns c = rw (c .before .match .keys1) (c .reading-head-at .ensures)
@@ -69,12 +51,12 @@ pub operation-head-at-spec : {M : Type 1} → statement M
 operation-head-at-spec =
     tie.close
     (tie.spec
-    reading-head-at-requires
-    constant-head-at-requires
-    all-head-at-requires
-    any-head-at-requires
-    left-head-at-requires
-    right-head-at-requires
+    (λ c κs. search needs)
+    (λ c κs. search needs)
+    (λ c κs. search needs)
+    (λ c κs. search needs)
+    (λ c κs. search needs)
+    (λ c κs. search needs)
     returns
     returns-2
     returns-3

@@ -1,4 +1,3 @@
-use mathlib.Core.Path.{_≡_}
 use borrow.Author.Needs.{needs}
 use Rattle.index.specs.Rows.{putRow}
 use Rattle.index.proofs.put_row.Statement.{statement}

@@ -3,9 +3,6 @@ use borrow.Author.Needs.{needs}
 use Rattle.listing.proofs.count_bit.Statement.{statement}
 use Rattle.listing.proofs.count_bit.Tie as tie
 
-is-shown-requires : tie.Need-is-shown-requires
-is-shown-requires c κs = search needs
-
 returns : tie.Need-returns
 returns c = bit-yes _ _ _ (c .before .is-shown .ensures) (c .if1 .taken)
 
@@ -13,4 +10,4 @@ returns-2 : tie.Need-returns-2
 returns-2 c = bit-no _ _ _ (c .before .is-shown .ensures) (c .if1 .left)
 
 pub count-bit-spec : {M : Type 1} → statement M
-count-bit-spec = tie.close (tie.spec is-shown-requires returns returns-2)
+count-bit-spec = tie.close (tie.spec (λ c κs. search needs) returns returns-2)

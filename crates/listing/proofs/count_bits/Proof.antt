@@ -1,5 +1,5 @@
 -- The invariant: the shown ones of the first b bits have been counted.
-use mathlib.Core.Path.{_≡_, ap}
+use mathlib.Core.Path.{_≡_}
 use Prim.Native.Nat.{_≤_, _-_, _+_}
 use borrow.Author.Needs.{needs}
 use native.Mathlib.Omega.{arith}
@@ -19,21 +19,12 @@ abbrev μ-loop : tie.MeasureT-loop
 loop-holds : tie.Need-loop-holds Inv-loop μ-loop
 loop-holds c = (omega arith, bits-none _ _)
 
-count-bit-requires : tie.Need-count-bit-requires Inv-loop μ-loop
-count-bit-requires c κs = search needs
-
 add-count : tie.Need-add-count Inv-loop μ-loop
 add-count c =
     let l = c .before .before in
     let a = l .before .before .before .args in
     let g = tableGraph (a .active .now) (a .child .now) in
     omega (arith, count-more g (a .i) (l .loop .b) (l .loop .inv .1) (c .count-bit .ensures), bits-few g (a .i) (l .loop .b + 1))
-
-add-b : tie.Need-add-b Inv-loop μ-loop
-add-b c = search needs
-
-loop-less : tie.Need-loop-less Inv-loop μ-loop
-loop-less c = search needs
 
 loop-again : tie.Need-loop-again Inv-loop μ-loop
 loop-again c = (search needs, count-more _ _ _ (c .before .before .loop .inv .1) (c .count-bit .ensures))
@@ -44,4 +35,4 @@ returns c = bits-end _ _ _ _ (c .before .loop .inv .1) (omega arith)
 pub count-bits-spec : {M : Type 1} → statement M
 count-bits-spec =
     tie.close
-    (tie.spec Inv-loop μ-loop loop-holds count-bit-requires add-count add-b loop-less loop-again returns)
+    (tie.spec Inv-loop μ-loop loop-holds (λ c κs. search needs) add-count (λ c. search needs) (λ c. search needs) loop-again returns)

@@ -3,12 +3,6 @@ use borrow.Author.Needs.{needs}
 use Rattle.listing.proofs.count_row.Statement.{statement}
 use Rattle.listing.proofs.count_row.Tie as tie
 
-shared-slice-read-if1 : tie.Need-shared-slice-read-if1
-shared-slice-read-if1 c = search needs
-
-count-bits-requires : tie.Need-count-bits-requires
-count-bits-requires c κs = search needs
-
 returns : tie.Need-returns
 returns c = row-done _ _ _ (c .before .if1 .taken) (c .count-bits .ensures)
 
@@ -16,4 +10,4 @@ returns-2 : tie.Need-returns-2
 returns-2 c = row-not _ _ _ (c .if1 .left)
 
 pub count-row-spec : {M : Type 1} → statement M
-count-row-spec = tie.close (tie.spec shared-slice-read-if1 count-bits-requires returns returns-2)
+count-row-spec = tie.close (tie.spec (λ c. search needs) (λ c κs. search needs) returns returns-2)

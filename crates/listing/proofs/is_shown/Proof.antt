@@ -13,9 +13,6 @@ mul-bit c = let s = c .before .before in omega (arith, size-few (s .args .active
 shared-slice-read-bit : tie.Need-shared-slice-read-bit
 shared-slice-read-bit c = let s = c .before .before .before in omega (arith, size-few (s .args .active .now))
 
-bit-requires : tie.Need-bit-requires
-bit-requires c κs = search needs
-
 returns : tie.Need-returns
 returns c =
     let s = c .before .before .before .before .before in
@@ -26,9 +23,6 @@ mul-child-at c = let s = c .before .before .before .before .before in omega (ari
 
 add-child-at : tie.Need-add-child-at
 add-child-at c = let s = c .before .before .before .before .before in omega (arith, size-few (s .args .active .now))
-
-child-at-requires : tie.Need-child-at-requires
-child-at-requires c κs = search needs
 
 returns-2 : tie.Need-returns-2
 returns-2 c =
@@ -42,9 +36,9 @@ is-shown-spec =
     (tie.spec
     mul-bit
     shared-slice-read-bit
-    bit-requires
+    (λ c κs. search needs)
     returns
     mul-child-at
     add-child-at
-    child-at-requires
+    (λ c κs. search needs)
     returns-2)

@@ -4,7 +4,6 @@ use mathlib.Core.List.{[], _∷_}
 use Prim.Native.Nat.{_≤_, _-_}
 use borrow.Author.Needs.{needs}
 use native.Mathlib.Omega.{arith}
-use lib.ListN.{length}
 use Rattle.graph.specs.Chains.{kept}
 use Rattle.walk.specs.TableGraph.{tableGraph}
 use Rattle.listing.specs.Rows.{shown, bitsTo, bitRecords, Wrote}
@@ -29,12 +28,6 @@ put-bit-requires c κs =
     let r = room-next _ _ _ _ _ _ (c .before .loop-test .taken) (s .pre .1) (l .loop .inv .1) in
     ((s .pre .0 .0, s .pre .0 .1, c .before .loop-test .taken), omega (arith, r, l .loop .inv .1 .same))
 
-add-b : tie.Need-add-b Inv-loop μ-loop
-add-b c = search needs
-
-loop-less : tie.Need-loop-less Inv-loop μ-loop
-loop-less c = search needs
-
 loop-again : tie.Need-loop-again Inv-loop μ-loop
 loop-again c =
     let p = c .before .before in
@@ -50,13 +43,10 @@ loop-again c =
           (omega (arith, r, w .ends, records-length (a .attention) (a .id) (a .number) (kept (shown g (a .i)) (l .loop .b ∷ [])))),
     )
 
-same-length : tie.Need-same-length Inv-loop μ-loop
-same-length c = search needs
-
 returns : tie.Need-returns Inv-loop μ-loop
 returns c = bits-finished _ _ _ _ _ _ _ (omega arith) (c .before .loop .inv .1)
 
 pub put-bits-spec : {M : Type 1} → statement M
 put-bits-spec =
     tie.close
-    (tie.spec Inv-loop μ-loop loop-holds put-bit-requires add-b loop-less loop-again same-length returns)
+    (tie.spec Inv-loop μ-loop loop-holds put-bit-requires (λ c. search needs) (λ c. search needs) loop-again (λ c. search needs) returns)

@@ -5,53 +5,23 @@ use borrow.Author.Needs.{needs}
 use Rattle.listing.proofs.put_record.Statement.{statement}
 use Rattle.listing.proofs.put_record.Tie as tie
 
-slice-write-list : tie.Need-slice-write-list
-slice-write-list c = search needs
-
-add-list : tie.Need-add-list
-add-list c = search needs
-
 slice-write-list-2 : tie.Need-slice-write-list-2
 slice-write-list-2 c = simp length-set (omega arith)
-
-cast-list : tie.Need-cast-list
-cast-list c = search needs
-
-add-list-2 : tie.Need-add-list-2
-add-list-2 c = search needs
 
 slice-write-list-3 : tie.Need-slice-write-list-3
 slice-write-list-3 c = simp length-set (omega arith)
 
-cast-list-2 : tie.Need-cast-list-2
-cast-list-2 c = search needs
-
-add-list-3 : tie.Need-add-list-3
-add-list-3 c = search needs
-
 slice-write-list-4 : tie.Need-slice-write-list-4
 slice-write-list-4 c = simp length-set (omega arith)
-
-add-list-4 : tie.Need-add-list-4
-add-list-4 c = search needs
 
 slice-write-list-5 : tie.Need-slice-write-list-5
 slice-write-list-5 c = simp length-set (omega arith)
 
-add-list-5 : tie.Need-add-list-5
-add-list-5 c = search needs
-
 slice-write-list-6 : tie.Need-slice-write-list-6
 slice-write-list-6 c = simp length-set (omega arith)
 
-add-list-6 : tie.Need-add-list-6
-add-list-6 c = search needs
-
 slice-write-list-7 : tie.Need-slice-write-list-7
 slice-write-list-7 c = simp length-set (omega arith)
-
-add-list-7 : tie.Need-add-list-7
-add-list-7 c = search needs
 
 slice-write-list-8 : tie.Need-slice-write-list-8
 slice-write-list-8 c = simp length-set (omega arith)
@@ -66,22 +36,22 @@ pub put-record-spec : {M : Type 1} → statement M
 put-record-spec =
     tie.close
     (tie.spec
-    slice-write-list
-    add-list
+    (λ c. search needs)
+    (λ c. search needs)
     slice-write-list-2
-    cast-list
-    add-list-2
+    (λ c. search needs)
+    (λ c. search needs)
     slice-write-list-3
-    cast-list-2
-    add-list-3
+    (λ c. search needs)
+    (λ c. search needs)
     slice-write-list-4
-    add-list-4
+    (λ c. search needs)
     slice-write-list-5
-    add-list-5
+    (λ c. search needs)
     slice-write-list-6
-    add-list-6
+    (λ c. search needs)
     slice-write-list-7
-    add-list-7
+    (λ c. search needs)
     slice-write-list-8
     same-length
     returns)

@@ -4,21 +4,6 @@ use borrow.Author.Needs.{needs}
 use Rattle.listing.proofs.put_row.Statement.{statement}
 use Rattle.listing.proofs.put_row.Tie as tie
 
-shared-slice-read-if1 : tie.Need-shared-slice-read-if1
-shared-slice-read-if1 c = search needs
-
-mul-key : tie.Need-mul-key
-mul-key c = search needs
-
-shared-slice-read-key : tie.Need-shared-slice-read-key
-shared-slice-read-key c = search needs
-
-cast-put-bits : tie.Need-cast-put-bits
-cast-put-bits c = search needs
-
-cast-put-bits-2 : tie.Need-cast-put-bits-2
-cast-put-bits-2 c = search needs
-
 put-bits-requires : tie.Need-put-bits-requires
 put-bits-requires c κs =
     let t = c .before .before in
@@ -27,9 +12,6 @@ put-bits-requires c κs =
       (s .pre .0 .0, s .pre .0 .1),
       row-room (a .attention) (a .keys .now) (tableGraph (a .active .now) (a .child .now)) (a .marks .now) (a .i) (a .list .now) (a .«at») (t .if1 .taken) (s .pre .1),
     )
-
-same-length : tie.Need-same-length
-same-length c = search needs
 
 returns : tie.Need-returns
 returns c = row-wrote _ _ _ _ _ (c .before .before .before .before .before .if1 .taken) (c .before .before .put-bits .ensures)
@@ -41,12 +23,12 @@ pub put-row-spec : {M : Type 1} → statement M
 put-row-spec =
     tie.close
     (tie.spec
-    shared-slice-read-if1
-    mul-key
-    shared-slice-read-key
-    cast-put-bits
-    cast-put-bits-2
+    (λ c. search needs)
+    (λ c. search needs)
+    (λ c. search needs)
+    (λ c. search needs)
+    (λ c. search needs)
     put-bits-requires
-    same-length
+    (λ c. search needs)
     returns
     returns-2)

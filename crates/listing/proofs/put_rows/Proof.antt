@@ -3,7 +3,6 @@
 use Prim.Native.Nat.{_≤_, _-_}
 use borrow.Author.Needs.{needs}
 use native.Mathlib.Omega.{arith}
-use lib.ListN.{length}
 use Rattle.walk.specs.TableGraph.{tableGraph}
 use Rattle.listing.specs.Rows.{rowsRecords, Wrote}
 use Rattle.listing.proofs.WriteLaws.{rows-started, rows-wrote, rows-finished, rows-room, row-length}
@@ -28,12 +27,6 @@ put-row-requires c κs =
     let r = rows-room _ _ _ _ _ _ t (s .pre .1) (l .loop .inv .1) in
     ((s .pre .0 .0, t, s .pre .0 .1, s .pre .0 .2), omega (arith, r, l .loop .inv .1 .same))
 
-add-i : tie.Need-add-i Inv-loop μ-loop
-add-i c = search needs
-
-loop-less : tie.Need-loop-less Inv-loop μ-loop
-loop-less c = search needs
-
 loop-again : tie.Need-loop-again Inv-loop μ-loop
 loop-again c =
     let p = c .before .before in
@@ -49,13 +42,10 @@ loop-again c =
           (omega (arith, r, w .ends, row-length (a .attention) (a .keys .now) g (a .marks .now) (l .loop .i))),
     )
 
-same-length : tie.Need-same-length Inv-loop μ-loop
-same-length c = search needs
-
 returns : tie.Need-returns Inv-loop μ-loop
 returns c = rows-finished _ _ _ _ _ _ (omega arith) (c .before .loop .inv .1)
 
 pub put-rows-spec : {M : Type 1} → statement M
 put-rows-spec =
     tie.close
-    (tie.spec Inv-loop μ-loop loop-holds put-row-requires add-i loop-less loop-again same-length returns)
+    (tie.spec Inv-loop μ-loop loop-holds put-row-requires (λ c. search needs) (λ c. search needs) loop-again (λ c. search needs) returns)

@@ -4,17 +4,11 @@ use borrow.Author.Needs.{needs}
 use Rattle.listing.proofs.write_list.Statement.{statement}
 use Rattle.listing.proofs.write_list.Tie as tie
 
-size-requires : tie.Need-size-requires
-size-requires c κs = search needs
-
 returns : tie.Need-returns
 returns c = (unfit-marks _ _ _ _ _ _ (c .before .size .ensures) (c .if1 .taken), refl)
 
 returns-2 : tie.Need-returns-2
 returns-2 c = (unfit-keys _ _ _ _ _ _ (c .before .before .size .ensures) (c .before .if1 .left) (c .if2 .taken), refl)
-
-count-rows-requires : tie.Need-count-rows-requires
-count-rows-requires c κs = search needs
 
 returns-3 : tie.Need-returns-3
 returns-3 c =
@@ -22,12 +16,6 @@ returns-3 c =
       room-no _ _ _ _ _ _ (d .before .before .size .ensures) (d .before .if1 .left) (d .if2 .left) (c .before .count-rows .ensures) (c .if3 .taken),
       refl,
     )
-
-put-rows-requires : tie.Need-put-rows-requires
-put-rows-requires c κs = search needs
-
-same-length : tie.Need-same-length
-same-length c = search needs
 
 returns-4 : tie.Need-returns-4
 returns-4 c =
@@ -42,11 +30,11 @@ pub write-list-spec : {M : Type 1} → statement M
 write-list-spec =
     tie.close
     (tie.spec
-    size-requires
+    (λ c κs. search needs)
     returns
     returns-2
-    count-rows-requires
+    (λ c κs. search needs)
     returns-3
-    put-rows-requires
-    same-length
+    (λ c κs. search needs)
+    (λ c. search needs)
     returns-4)

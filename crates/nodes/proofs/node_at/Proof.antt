@@ -6,24 +6,6 @@ use Rattle.nodes.proofs.NodeLaws.{node-laws, node-told, head-then}
 use Rattle.nodes.proofs.node_at.Statement.{statement}
 use Rattle.nodes.proofs.node_at.Tie as tie
 
-node-head-at-requires : tie.Need-node-head-at-requires
-node-head-at-requires c κs = search needs
-
-enum-known-top : tie.Need-enum-known-top
-enum-known-top c = search needs
-
-node-instances-at-requires : tie.Need-node-instances-at-requires
-node-instances-at-requires c κs = search needs
-
-enum-known-rest : tie.Need-enum-known-rest
-enum-known-rest c = search needs
-
-enum-known-rest-2 : tie.Need-enum-known-rest-2
-enum-known-rest-2 c = search needs
-
-enum-known-top-2 : tie.Need-enum-known-top-2
-enum-known-top-2 c = search needs
-
 returns : tie.Need-returns
 returns c before t e =
     node-told _ _ _ _ _ t e
@@ -40,12 +22,12 @@ pub node-at-spec : {M : Type 1} → statement M
 node-at-spec =
     tie.close
     (tie.spec
-    node-head-at-requires
-    enum-known-top
-    node-instances-at-requires
-    enum-known-rest
-    enum-known-rest-2
-    enum-known-top-2
+    (λ c κs. search needs)
+    (λ c. search needs)
+    (λ c κs. search needs)
+    (λ c. search needs)
+    (λ c. search needs)
+    (λ c. search needs)
     returns
     returns-2
     returns-3)

@@ -5,27 +5,6 @@ use Rattle.fields.proofs.Steps.{forgot-then, forgot-stop}
 use Rattle.nodes.proofs.node_body_at.Statement.{statement}
 use Rattle.nodes.proofs.node_body_at.Tie as tie
 
-captures-at-requires : tie.Need-captures-at-requires
-captures-at-requires c κs = search needs
-
-enum-known-c : tie.Need-enum-known-c
-enum-known-c c = search needs
-
-rules-at-requires : tie.Need-rules-at-requires
-rules-at-requires c κs = search needs
-
-enum-known-r : tie.Need-enum-known-r
-enum-known-r c = search needs
-
-children-at-requires : tie.Need-children-at-requires
-children-at-requires c κs = search needs
-
-enum-known-r-2 : tie.Need-enum-known-r-2
-enum-known-r-2 c = search needs
-
-enum-known-c-2 : tie.Need-enum-known-c-2
-enum-known-c-2 c = search needs
-
 returns : tie.Need-returns
 unfolding nodeBodyAt
 returns c =
@@ -44,13 +23,13 @@ pub node-body-at-spec : {M : Type 1} → statement M
 node-body-at-spec =
     tie.close
     (tie.spec
-    captures-at-requires
-    enum-known-c
-    rules-at-requires
-    enum-known-r
-    children-at-requires
-    enum-known-r-2
-    enum-known-c-2
+    (λ c κs. search needs)
+    (λ c. search needs)
+    (λ c κs. search needs)
+    (λ c. search needs)
+    (λ c κs. search needs)
+    (λ c. search needs)
+    (λ c. search needs)
     returns
     returns-2
     returns-3)

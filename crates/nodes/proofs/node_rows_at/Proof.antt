@@ -36,12 +36,6 @@ slice-aggregate-node-at c =
     let h : l .known ≤ length (l .ids) = omega (arith, l .inv .0, l .inv .1, l .inv .2) in
     sym (length-take-le _ _ h)
 
-node-at-requires : tie.Need-node-at-requires Inv-loop μ-loop
-node-at-requires c κs = search needs
-
-enum-known-e : tie.Need-enum-known-e Inv-loop μ-loop
-enum-known-e c = search needs
-
 mul-ids : tie.Need-mul-ids Inv-loop μ-loop
 mul-ids c = omega arith
 
@@ -52,14 +46,8 @@ array-write-ids c =
     let h = node-size _ (x .before) _ (sym (ap elementParsed (c .before .e .given .1)) ∙ c .before .before .before .node-at .ensures (x .before) (x .told) (x .counted)) in
     omega (arith, h .0, h .1, x .counted)
 
-cast-total : tie.Need-cast-total Inv-loop μ-loop
-cast-total c = search needs
-
 add-total : tie.Need-add-total Inv-loop μ-loop
 add-total c = omega arith
-
-enum-known-e-2 : tie.Need-enum-known-e-2 Inv-loop μ-loop
-enum-known-e-2 c = search needs
 
 returns : tie.Need-returns Inv-loop μ-loop
 returns c =
@@ -69,12 +57,6 @@ returns c =
 
 add-known : tie.Need-add-known Inv-loop μ-loop
 add-known c = omega arith
-
-sub-left : tie.Need-sub-left Inv-loop μ-loop
-sub-left c = search needs
-
-loop-less : tie.Need-loop-less Inv-loop μ-loop
-loop-less c = search needs
 
 loop-again : tie.Need-loop-again Inv-loop μ-loop
 loop-again c =
@@ -100,16 +82,16 @@ node-rows-at-spec =
     loop-holds
     array-share-prefix-ids
     slice-aggregate-node-at
-    node-at-requires
-    enum-known-e
+    (λ c κs. search needs)
+    (λ c. search needs)
     mul-ids
     array-write-ids
-    cast-total
+    (λ c. search needs)
     add-total
-    enum-known-e-2
+    (λ c. search needs)
     returns
     add-known
-    sub-left
-    loop-less
+    (λ c. search needs)
+    (λ c. search needs)
     loop-again
     returns-2)

@@ -6,24 +6,6 @@ use Rattle.nodes.proofs.NodeLaws.{node-laws, rule-told}
 use Rattle.nodes.proofs.rule_at.Statement.{statement}
 use Rattle.nodes.proofs.rule_at.Tie as tie
 
-new-attention-at-requires : tie.Need-new-attention-at-requires
-new-attention-at-requires c κs = search needs
-
-enum-known-b : tie.Need-enum-known-b
-enum-known-b c = search needs
-
-expression-at-requires : tie.Need-expression-at-requires
-expression-at-requires c κs = search needs
-
-enum-known-e : tie.Need-enum-known-e
-enum-known-e c = search needs
-
-enum-known-e-2 : tie.Need-enum-known-e-2
-enum-known-e-2 c = search needs
-
-enum-known-b-2 : tie.Need-enum-known-b-2
-enum-known-b-2 c = search needs
-
 returns : tie.Need-returns
 unfolding levels
 returns c before t =
@@ -43,12 +25,12 @@ pub rule-at-spec : {M : Type 1} → statement M
 rule-at-spec =
     tie.close
     (tie.spec
-    new-attention-at-requires
-    enum-known-b
-    expression-at-requires
-    enum-known-e
-    enum-known-e-2
-    enum-known-b-2
+    (λ c κs. search needs)
+    (λ c. search needs)
+    (λ c κs. search needs)
+    (λ c. search needs)
+    (λ c. search needs)
+    (λ c. search needs)
     returns
     returns-2
     returns-3)

@@ -4,9 +4,6 @@ use borrow.Author.Needs.{needs}
 use Rattle.numbers.proofs.left_word.Statement.{statement}
 use Rattle.numbers.proofs.left_word.Tie as tie
 
-shl-result : tie.Need-shl-result
-shl-result c = search needs
-
 returns : tie.Need-returns
 returns c = left-machine 64 _ _ (omega arith) (omega arith)
 
@@ -14,4 +11,4 @@ returns-2 : tie.Need-returns-2
 returns-2 c = left-none 64 _ _ (c .if1 .left)
 
 pub left-word-spec : {M : Type 1} → statement M
-left-word-spec = tie.close (tie.spec shl-result returns returns-2)
+left-word-spec = tie.close (tie.spec (λ c. search needs) returns returns-2)

@@ -1,4 +1,4 @@
-use mathlib.Core.Path.{_≡_, _∙_, ap}
+use mathlib.Core.Path.{_∙_, ap}
 use borrow.Author.Needs.{needs}
 use Rattle.reader.specs.Layout.{layoutParsed}
 use Rattle.reader.proofs.AddressLaws.{check-accepted, check-refused}

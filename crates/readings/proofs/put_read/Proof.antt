@@ -26,14 +26,8 @@ shared-slice-read-read c = omega arith
 slice-write-read : tie.Need-slice-write-read Inv-loop μ-loop
 slice-write-read c = omega arith
 
-add-i : tie.Need-add-i Inv-loop μ-loop
-add-i c = search needs
-
 add-at : tie.Need-add-at Inv-loop μ-loop
 add-at c = omega arith
-
-loop-less : tie.Need-loop-less Inv-loop μ-loop
-loop-less c = search needs
 
 loop-again : tie.Need-loop-again Inv-loop μ-loop
 loop-again c = read-next (c .before .before .loop .inv) (c .before .loop-test .taken) (c .before .before .before .pre .0)
@@ -54,9 +48,9 @@ put-read-spec =
     add-read
     shared-slice-read-read
     slice-write-read
-    add-i
+    (λ c. search needs)
     add-at
-    loop-less
+    (λ c. search needs)
     loop-again
     same-length
     returns)

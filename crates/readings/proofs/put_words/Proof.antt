@@ -23,20 +23,11 @@ add-value-at c = omega arith
 value-at-requires : tie.Need-value-at-requires Inv-loop μ-loop
 value-at-requires c κs = omega arith
 
-mul-words : tie.Need-mul-words Inv-loop μ-loop
-mul-words c = search needs
-
 slice-write-words : tie.Need-slice-write-words Inv-loop μ-loop
 slice-write-words c = omega arith
 
-add-i : tie.Need-add-i Inv-loop μ-loop
-add-i c = search needs
-
 add-at : tie.Need-add-at Inv-loop μ-loop
 add-at c = omega arith
-
-loop-less : tie.Need-loop-less Inv-loop μ-loop
-loop-less c = search needs
 
 loop-again : tie.Need-loop-again Inv-loop μ-loop
 loop-again c = words-next (c .before .before .loop .inv) (c .before .loop-test .taken) (c .value-at .ensures)
@@ -56,11 +47,11 @@ put-words-spec =
     loop-holds
     add-value-at
     value-at-requires
-    mul-words
+    (λ c. search needs)
     slice-write-words
-    add-i
+    (λ c. search needs)
     add-at
-    loop-less
+    (λ c. search needs)
     loop-again
     same-length
     returns)

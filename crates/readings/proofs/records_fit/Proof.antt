@@ -17,12 +17,6 @@ abbrev μ-loop : tie.MeasureT-loop
 loop-holds : tie.Need-loop-holds Inv-loop μ-loop
 loop-holds c = fitting-begin
 
-mul-record-fits : tie.Need-mul-record-fits Inv-loop μ-loop
-mul-record-fits c = search needs
-
-shared-slice-read-record-fits : tie.Need-shared-slice-read-record-fits Inv-loop μ-loop
-shared-slice-read-record-fits c = search needs
-
 record-fits-requires : tie.Need-record-fits-requires Inv-loop μ-loop
 record-fits-requires c κs = omega arith
 
@@ -31,14 +25,8 @@ returns c =
     let b = c .before .before .before in
     fitting-stop (b .before .loop .inv) (b .loop-test .taken) (c .before .record-fits .ensures) (not-true _ (c .if1 .taken))
 
-add-i : tie.Need-add-i Inv-loop μ-loop
-add-i c = search needs
-
 add-at : tie.Need-add-at Inv-loop μ-loop
 add-at c = omega arith
-
-loop-less : tie.Need-loop-less Inv-loop μ-loop
-loop-less c = search needs
 
 loop-again : tie.Need-loop-again Inv-loop μ-loop
 loop-again c =
@@ -55,12 +43,12 @@ records-fit-spec =
     Inv-loop
     μ-loop
     loop-holds
-    mul-record-fits
-    shared-slice-read-record-fits
+    (λ c. search needs)
+    (λ c. search needs)
     record-fits-requires
     returns
-    add-i
+    (λ c. search needs)
     add-at
-    loop-less
+    (λ c. search needs)
     loop-again
     returns-2)

@@ -1,7 +1,7 @@
 -- The invariant: those before have no fault, so that those to come decide.
 use mathlib.Core.Bool.{true}
 use mathlib.Core.List.{[]}
-use mathlib.Core.Path.{_≡_, sym, _∙_, ap}
+use mathlib.Core.Path.{sym, _∙_, ap}
 use borrow.Author.Needs.{needs}
 use Rattle.format.specs.NodeLayout.{childAt}
 use Rattle.format.specs.Parsed.{rowAt}

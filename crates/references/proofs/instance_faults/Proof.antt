@@ -1,5 +1,5 @@
 use mathlib.Core.List.{[]}
-use mathlib.Core.Path.{_≡_, sym, _∙_, ap}
+use mathlib.Core.Path.{sym, _∙_, ap}
 use borrow.Author.Needs.{needs}
 use Rattle.fields.specs.Views.{nextParsed}
 use Rattle.fields.proofs.SeenLaws.{tells-none}

@@ -6,24 +6,6 @@ use Rattle.registers.proofs.RegisterLaws.{register-laws, register-told,
 use Rattle.registers.proofs.register_at.Statement.{statement}
 use Rattle.registers.proofs.register_at.Tie as tie
 
-register-head-at-requires : tie.Need-register-head-at-requires
-register-head-at-requires c κs = search needs
-
-enum-known-top : tie.Need-enum-known-top
-enum-known-top c = search needs
-
-register-instances-at-requires : tie.Need-register-instances-at-requires
-register-instances-at-requires c κs = search needs
-
-enum-known-rest : tie.Need-enum-known-rest
-enum-known-rest c = search needs
-
-enum-known-rest-2 : tie.Need-enum-known-rest-2
-enum-known-rest-2 c = search needs
-
-enum-known-top-2 : tie.Need-enum-known-top-2
-enum-known-top-2 c = search needs
-
 returns : tie.Need-returns
 returns c before t e =
     register-told _ _ _ _ _ t e
@@ -40,12 +22,12 @@ pub register-at-spec : {M : Type 1} → statement M
 register-at-spec =
     tie.close
     (tie.spec
-    register-head-at-requires
-    enum-known-top
-    register-instances-at-requires
-    enum-known-rest
-    enum-known-rest-2
-    enum-known-top-2
+    (λ c κs. search needs)
+    (λ c. search needs)
+    (λ c κs. search needs)
+    (λ c. search needs)
+    (λ c. search needs)
+    (λ c. search needs)
     returns
     returns-2
     returns-3)

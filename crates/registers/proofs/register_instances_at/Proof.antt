@@ -1,11 +1,9 @@
 -- The invariant: the marks tell the numbers of the instances so far, and those that are left decide.
-use Prim.Native.Nat.{_+_}
 use mathlib.Core.Bool.{true}
 use mathlib.Core.List.{[]}
-use mathlib.Core.Path.{_≡_, refl, sym, _∙_, ap}
+use mathlib.Core.Path.{sym, _∙_, ap}
 use native.Mathlib.Omega.{arith}
 use borrow.Author.Needs.{needs}
-use lib.ListN.{length}
 use Rattle.format.specs.Parsed.{rowAt}
 use Rattle.format.specs.RegisterLayout.{registerInstanceAt}
 use Rattle.registers.specs.Registers.{registerNumber}
@@ -25,23 +23,8 @@ abbrev μ-loop : tie.MeasureT-loop
 loop-holds : tie.Need-loop-holds Inv-loop μ-loop
 loop-holds c = row-begin _ _ _ _ _
 
-slice-aggregate-register-instance-at : tie.Need-slice-aggregate-register-instance-at Inv-loop μ-loop
-slice-aggregate-register-instance-at c = search needs
-
-register-instance-at-requires : tie.Need-register-instance-at-requires Inv-loop μ-loop
-register-instance-at-requires c κs = search needs
-
-enum-known-i : tie.Need-enum-known-i Inv-loop μ-loop
-enum-known-i c = search needs
-
-cast-seen : tie.Need-cast-seen Inv-loop μ-loop
-cast-seen c = search needs
-
 array-write-seen : tie.Need-array-write-seen Inv-loop μ-loop
 array-write-seen c = omega arith
-
-enum-known-i-2 : tie.Need-enum-known-i-2 Inv-loop μ-loop
-enum-known-i-2 c = search needs
 
 returns : tie.Need-returns Inv-loop μ-loop
 returns c =
@@ -53,12 +36,6 @@ add-begun c =
     let l = c .before .before .before .before .before .before .loop .inv in
     let h = instance-room registerNumber _ _ _ (l .before) _ (sym (ap byteParsed (c .before .i .given .1)) ∙ c .before .before .before .register-instance-at .ensures _ _ (l .marks) (l .counted)) in
     omega (arith, l .counted)
-
-sub-left : tie.Need-sub-left Inv-loop μ-loop
-sub-left c = search needs
-
-loop-less : tie.Need-loop-less Inv-loop μ-loop
-loop-less c = search needs
 
 loop-again : tie.Need-loop-again Inv-loop μ-loop
 loop-again c =
@@ -75,15 +52,15 @@ register-instances-at-spec =
     Inv-loop
     μ-loop
     loop-holds
-    slice-aggregate-register-instance-at
-    register-instance-at-requires
-    enum-known-i
-    cast-seen
+    (λ c. search needs)
+    (λ c κs. search needs)
+    (λ c. search needs)
+    (λ c. search needs)
     array-write-seen
-    enum-known-i-2
+    (λ c. search needs)
     returns
     add-begun
-    sub-left
-    loop-less
+    (λ c. search needs)
+    (λ c. search needs)
     loop-again
     returns-2)

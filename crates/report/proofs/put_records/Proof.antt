@@ -1,6 +1,6 @@
 -- The invariant: the lines of the first i records have been put.
 use Prim.Native.Nat.{_-_, _≤_}
-use mathlib.Core.Path.{_≡_, ap, _∙_}
+use mathlib.Core.Path.{ap, _∙_}
 use native.Mathlib.Omega.{arith}
 use borrow.Author.Needs.{needs}
 use lib.ListN.{length}
@@ -30,12 +30,6 @@ put-record-requires c κs =
       omega (arith, s .pre .1, c .before .loop-test .taken),
     )
 
-add-i : tie.Need-add-i Inv-loop μ-loop
-add-i c = search needs
-
-loop-less : tie.Need-loop-less Inv-loop μ-loop
-loop-less c = search needs
-
 loop-again : tie.Need-loop-again Inv-loop μ-loop
 loop-again c = (search needs, lines-next _ _ (c .before .before .before .before .before .loop .inv .1) (c .before .before .put-record .ensures))
 
@@ -48,4 +42,4 @@ returns c = lines-end _ _ _ (c .before .loop .inv .0) (c .loop-test .left) (c .b
 pub put-records-spec : {M : Type 1} → statement M
 put-records-spec =
     tie.close
-    (tie.spec Inv-loop μ-loop loop-holds mul-put-record put-record-requires add-i loop-less loop-again same-length returns)
+    (tie.spec Inv-loop μ-loop loop-holds mul-put-record put-record-requires (λ c. search needs) (λ c. search needs) loop-again same-length returns)

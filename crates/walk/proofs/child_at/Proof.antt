@@ -7,12 +7,6 @@ use Rattle.walk.proofs.child_at.Tie as tie
 returns : tie.Need-returns
 returns c = child-beyond _ _ _ (c .if1 .taken)
 
-mul-c : tie.Need-mul-c
-mul-c c = search needs
-
-shared-slice-read-c : tie.Need-shared-slice-read-c
-shared-slice-read-c c = search needs
-
 cast-c : tie.Need-cast-c
 cast-c c = omega (arith, c .shared-slice-known .given (c .before .before .args .k))
 
@@ -23,4 +17,4 @@ returns-3 : tie.Need-returns-3
 returns-3 c = child-there _ _ _ (omega arith) (c .if2 .left)
 
 pub child-at-spec : {M : Type 1} → statement M
-child-at-spec = tie.close (tie.spec returns mul-c shared-slice-read-c cast-c returns-2 returns-3)
+child-at-spec = tie.close (tie.spec returns (λ c. search needs) (λ c. search needs) cast-c returns-2 returns-3)

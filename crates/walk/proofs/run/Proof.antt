@@ -15,12 +15,6 @@ Inv-loop active child root n w₀ steps₀ w steps = Walking (tableGraph active 
 abbrev μ-loop : tie.MeasureT-loop
 μ-loop active child root n w₀ steps₀ w steps = n - steps
 
-size-requires : tie.Need-size-requires Inv-loop μ-loop
-size-requires c κs = search needs
-
-start-requires : tie.Need-start-requires Inv-loop μ-loop
-start-requires c κs = search needs
-
 returns : tie.Need-returns Inv-loop μ-loop
 returns c =
     let d = c .before .before in
@@ -28,12 +22,6 @@ returns c =
 
 loop-holds : tie.Need-loop-holds Inv-loop μ-loop
 loop-holds c = run-start _ _ _ _ (c .before .before .size .ensures) (c .if1 .left) (c .before .start .ensures)
-
-waiting-requires : tie.Need-waiting-requires Inv-loop μ-loop
-waiting-requires c κs = search needs
-
-step-requires : tie.Need-step-requires Inv-loop μ-loop
-step-requires c κs = search needs
 
 add-steps : tie.Need-add-steps Inv-loop μ-loop
 add-steps c =
@@ -68,12 +56,12 @@ run-spec =
     (tie.spec
     Inv-loop
     μ-loop
-    size-requires
-    start-requires
+    (λ c κs. search needs)
+    (λ c κs. search needs)
     returns
     loop-holds
-    waiting-requires
-    step-requires
+    (λ c κs. search needs)
+    (λ c κs. search needs)
     add-steps
     loop-less
     loop-again

@@ -4,7 +4,6 @@ use mathlib.Core.Path.{sym, _∙_}
 use borrow.Author.Needs.{needs}
 use borrow.Author.Tests.{not-true, not-false}
 use native.Mathlib.Omega.{arith}
-use lib.ListN.{length}
 use Rattle.walk.proofs.Tables.{size-few, idle, outside, known, fresh}
 use Rattle.walk.proofs.touch.Statement.{statement}
 use Rattle.walk.proofs.touch.Tie as tie
@@ -14,9 +13,6 @@ mul-bit c = let s = c .before .before .before in omega (arith, size-few (s .args
 
 shared-slice-read-bit : tie.Need-shared-slice-read-bit
 shared-slice-read-bit c = let s = c .before .before .before .before in omega (arith, size-few (s .args .active .now))
-
-bit-requires : tie.Need-bit-requires
-bit-requires c κs = search needs
 
 returns : tie.Need-returns
 returns c =
@@ -28,9 +24,6 @@ mul-child-at c = let s = c .before .before .before .before .before .before in om
 
 add-child-at : tie.Need-add-child-at
 add-child-at c = let s = c .before .before .before .before .before .before in omega (arith, size-few (s .args .active .now))
-
-child-at-requires : tie.Need-child-at-requires
-child-at-requires c κs = search needs
 
 returns-2 : tie.Need-returns-2
 returns-2 c =
@@ -56,9 +49,6 @@ slice-write-m c =
     let s = c .before .before .before .before .before .before .before .before .before .before in
     omega (arith, size-few (s .args .active .now), s .pre)
 
-same-length : tie.Need-same-length
-same-length c = search needs
-
 returns-4 : tie.Need-returns-4
 returns-4 c =
     let d = c .before .before .before .before in
@@ -72,14 +62,14 @@ touch-spec =
     (tie.spec
     mul-bit
     shared-slice-read-bit
-    bit-requires
+    (λ c κs. search needs)
     returns
     mul-child-at
     add-child-at
-    child-at-requires
+    (λ c κs. search needs)
     returns-2
     slice-read-if3
     returns-3
     slice-write-m
-    same-length
+    (λ c. search needs)
     returns-4)

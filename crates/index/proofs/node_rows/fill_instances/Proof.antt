@@ -1,13 +1,12 @@
 -- The invariant: with the rows of the instances to come, the tables are what they are to be.
 use Prim.Native.Nat.{ℕ, _+_}
 use mathlib.Core.Bool.{true}
-use mathlib.Core.List.{List, [], _∷_}
-use mathlib.Core.Path.{_≡_, refl, sym, _∙_, ap}
+use mathlib.Core.List.{[], _∷_}
+use mathlib.Core.Path.{_≡_, refl, _∙_, ap}
 use native.Mathlib.Omega.{arith}
 use borrow.Author.Needs.{needs}
-use Rattle.format.specs.Parsed.{done, rowAt}
+use Rattle.format.specs.Parsed.{rowAt}
 use Rattle.format.specs.NodeLayout.{nodeInstanceAt}
-use Rattle.format.specs.Tree.{NodeInstance}
 use Rattle.index.specs.Rows.{filled, rowOf}
 use Rattle.index.proofs.FillingLaws.{Sized, sized-put, Filling, filling-begin, filling-next, filling-end, gathered-each, instance-put}
 use Rattle.index.proofs.node_rows.fill_instances.Statement.{statement}
@@ -26,23 +25,8 @@ abbrev μ-loop : tie.MeasureT-loop
 loop-holds : tie.Need-loop-holds Inv-loop μ-loop
 loop-holds c = (refl, record { keys = refl; kinds = refl; places = refl }, λ total. filling-begin _ _ _ _ _ _ _ tt)
 
-instance-at-requires : tie.Need-instance-at-requires Inv-loop μ-loop
-instance-at-requires c κs = search needs
-
-key-requires : tie.Need-key-requires Inv-loop μ-loop
-key-requires c κs = search needs
-
-put-row-requires : tie.Need-put-row-requires Inv-loop μ-loop
-put-row-requires c κs = search needs
-
 add-j : tie.Need-add-j Inv-loop μ-loop
 add-j c = let l = c .before .before .before .before .before .before .before .before .before .before .before .before .before .loop in omega (arith, l .inv .0)
-
-sub-left : tie.Need-sub-left Inv-loop μ-loop
-sub-left c = search needs
-
-loop-less : tie.Need-loop-less Inv-loop μ-loop
-loop-less c = search needs
 
 loop-again : tie.Need-loop-again Inv-loop μ-loop
 loop-again c =
@@ -76,12 +60,12 @@ fill-instances-spec =
     Inv-loop
     μ-loop
     loop-holds
-    instance-at-requires
-    key-requires
-    put-row-requires
+    (λ c κs. search needs)
+    (λ c κs. search needs)
+    (λ c κs. search needs)
     add-j
-    sub-left
-    loop-less
+    (λ c. search needs)
+    (λ c. search needs)
     loop-again
     same-length
     same-length-2

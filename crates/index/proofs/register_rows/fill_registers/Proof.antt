@@ -1,4 +1,4 @@
-use mathlib.Core.Path.{_≡_, sym, _∙_, ap}
+use mathlib.Core.Path.{sym, _∙_, ap}
 use borrow.Author.Needs.{needs}
 use Rattle.fields.specs.Views.{nextParsed, numberParsed}
 use Rattle.format.specs.Limits.{regs}

@@ -46,23 +46,8 @@ returns c =
     let l : 1024 ≤ c .before .before .loop .k = c .if1 .taken in
     absurd (omega arith)
 
-head-at-requires : tie.Need-head-at-requires Inv-loop μ-loop
-head-at-requires c κs = search needs
-
-fill-instances-requires : tie.Need-fill-instances-requires Inv-loop μ-loop
-fill-instances-requires c κs = search needs
-
-cast-k : tie.Need-cast-k Inv-loop μ-loop
-cast-k c = search needs
-
 add-k : tie.Need-add-k Inv-loop μ-loop
 add-k c = let h = c .before .before .before .before .before .before .before .before .before .before .before .before .if1 .left in omega arith
-
-sub-left : tie.Need-sub-left Inv-loop μ-loop
-sub-left c = search needs
-
-loop-less : tie.Need-loop-less Inv-loop μ-loop
-loop-less c = search needs
 
 loop-again : tie.Need-loop-again Inv-loop μ-loop
 loop-again c =
@@ -96,12 +81,12 @@ fill-rows-spec =
     same-length-2
     same-length-3
     returns
-    head-at-requires
-    fill-instances-requires
-    cast-k
+    (λ c κs. search needs)
+    (λ c κs. search needs)
+    (λ c. search needs)
     add-k
-    sub-left
-    loop-less
+    (λ c. search needs)
+    (λ c. search needs)
     loop-again
     same-length-4
     same-length-5

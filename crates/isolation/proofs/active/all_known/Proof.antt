@@ -1,5 +1,4 @@
 -- No byte passed is above 1.
-use mathlib.Core.Path.{_≡_}
 use Prim.Native.Nat.{ℕ, _≤_, _<_, _-_}
 use native.Mathlib.Omega.{arith}
 use borrow.Author.Count.{below-more}
@@ -14,9 +13,6 @@ Inv-loop read i₀ i = (i ≤ length read) × ((k : ℕ) → k < i → 1 < getD 
 
 abbrev μ-loop : tie.MeasureT-loop
 μ-loop read i₀ i = length read - i
-
-loop-holds : tie.Need-loop-holds Inv-loop μ-loop
-loop-holds c = search needs
 
 returns : tie.Need-returns Inv-loop μ-loop
 returns c =
@@ -38,7 +34,7 @@ all-known-spec =
     (tie.spec
     Inv-loop
     μ-loop
-    loop-holds
+    (λ c. search needs)
     (λ c. search needs)
     returns
     (λ c. search needs)

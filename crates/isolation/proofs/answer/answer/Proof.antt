@@ -1,4 +1,3 @@
-use mathlib.Core.Path.{_≡_}
 use borrow.Author.Needs.{needs}
 use Rattle.isolation.proofs.RootLaws.{small-type, large-type, rootless, unfitting, ready}
 use Rattle.isolation.proofs.answer.answer.Statement.{statement}

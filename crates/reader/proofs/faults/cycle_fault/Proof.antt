@@ -1,4 +1,3 @@
-use mathlib.Core.Path.{_≡_}
 use borrow.Author.Needs.{needs}
 use Rattle.reader.proofs.CycleLaws.{fault-found, fault-none}
 use Rattle.reader.proofs.faults.cycle_fault.Statement.{statement}

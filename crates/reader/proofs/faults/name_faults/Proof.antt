@@ -1,4 +1,4 @@
-use mathlib.Core.Path.{_≡_, ap}
+use mathlib.Core.Path.{ap}
 use borrow.Author.Needs.{needs}
 use Rattle.fields.specs.Views.{nextParsed}
 use Rattle.reader.proofs.NameLaws.{names-refused, names-roots}

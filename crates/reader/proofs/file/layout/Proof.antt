@@ -6,45 +6,6 @@ use Rattle.reader.proofs.LayoutLaws.{section-then, section-stop, last-m
 use Rattle.reader.proofs.file.layout.Statement.{statement}
 use Rattle.reader.proofs.file.layout.Tie as tie
 
-start-at-requires : tie.Need-start-at-requires
-start-at-requires c κs = search needs
-
-enum-known-start : tie.Need-enum-known-start
-enum-known-start c = search needs
-
-registers-at-requires : tie.Need-registers-at-requires
-registers-at-requires c κs = search needs
-
-enum-known-first : tie.Need-enum-known-first
-enum-known-first c = search needs
-
-nodes-at-requires : tie.Need-nodes-at-requires
-nodes-at-requires c κs = search needs
-
-enum-known-second : tie.Need-enum-known-second
-enum-known-second c = search needs
-
-roots-at-requires : tie.Need-roots-at-requires
-roots-at-requires c κs = search needs
-
-enum-known-third : tie.Need-enum-known-third
-enum-known-third c = search needs
-
-cast-t24 : tie.Need-cast-t24
-cast-t24 c = search needs
-
-enum-known-third-2 : tie.Need-enum-known-third-2
-enum-known-third-2 c = search needs
-
-enum-known-second-2 : tie.Need-enum-known-second-2
-enum-known-second-2 c = search needs
-
-enum-known-first-2 : tie.Need-enum-known-first-2
-enum-known-first-2 c = search needs
-
-enum-known-start-2 : tie.Need-enum-known-start-2
-enum-known-start-2 c = search needs
-
 returns : tie.Need-returns
 unfolding layoutAt
 returns c =
@@ -81,19 +42,19 @@ pub layout-spec : {M : Type 1} → statement M
 layout-spec =
     tie.close
     (tie.spec
-    start-at-requires
-    enum-known-start
-    registers-at-requires
-    enum-known-first
-    nodes-at-requires
-    enum-known-second
-    roots-at-requires
-    enum-known-third
-    cast-t24
-    enum-known-third-2
-    enum-known-second-2
-    enum-known-first-2
-    enum-known-start-2
+    (λ c κs. search needs)
+    (λ c. search needs)
+    (λ c κs. search needs)
+    (λ c. search needs)
+    (λ c κs. search needs)
+    (λ c. search needs)
+    (λ c κs. search needs)
+    (λ c. search needs)
+    (λ c. search needs)
+    (λ c. search needs)
+    (λ c. search needs)
+    (λ c. search needs)
+    (λ c. search needs)
     returns
     returns-2
     returns-3

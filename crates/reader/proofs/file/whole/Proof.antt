@@ -1,4 +1,4 @@
-use mathlib.Core.Path.{_≡_, refl, sym, _∙_, ap}
+use mathlib.Core.Path.{refl, sym, _∙_, ap}
 use borrow.Author.Needs.{needs}
 use Rattle.reader.specs.Layout.{layoutParsed}
 use Rattle.reader.proofs.WholeLaws.{whole-long, whole-refused, whole-more, whole-done}

@@ -1,4 +1,3 @@
-use mathlib.Core.Path.{_≡_}
 use borrow.Author.Needs.{needs}
 use Rattle.reader.proofs.PreparedLaws.{lent-filled}
 use Rattle.reader.proofs.prepare.fill_lent.Statement.{statement}

@@ -1,4 +1,4 @@
-use mathlib.Core.Path.{_≡_, refl}
+use mathlib.Core.Path.{refl}
 use Rattle.reader.proofs.PreparedLaws.{room-registers, room-nodes, room-rules, room-children, room-root}
 use Rattle.reader.proofs.prepare.has_room.Statement.{statement}
 use Rattle.reader.proofs.prepare.has_room.Tie as tie

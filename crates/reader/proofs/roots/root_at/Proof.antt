@@ -4,33 +4,6 @@ use Rattle.reader.proofs.RootLaws.{root-told}
 use Rattle.reader.proofs.roots.root_at.Statement.{statement}
 use Rattle.reader.proofs.roots.root_at.Tie as tie
 
-new-attention-at-requires : tie.Need-new-attention-at-requires
-new-attention-at-requires c κs = search needs
-
-enum-known-b : tie.Need-enum-known-b
-enum-known-b c = search needs
-
-number-at-requires : tie.Need-number-at-requires
-number-at-requires c κs = search needs
-
-enum-known-i : tie.Need-enum-known-i
-enum-known-i c = search needs
-
-byte-at-requires : tie.Need-byte-at-requires
-byte-at-requires c κs = search needs
-
-enum-known-n : tie.Need-enum-known-n
-enum-known-n c = search needs
-
-enum-known-n-2 : tie.Need-enum-known-n-2
-enum-known-n-2 c = search needs
-
-enum-known-i-2 : tie.Need-enum-known-i-2
-enum-known-i-2 c = search needs
-
-enum-known-b-2 : tie.Need-enum-known-b-2
-enum-known-b-2 c = search needs
-
 returns : tie.Need-returns
 returns c before t = search (steps, root-told) depth 8
 
@@ -47,15 +20,15 @@ pub root-at-spec : {M : Type 1} → statement M
 root-at-spec =
     tie.close
     (tie.spec
-    new-attention-at-requires
-    enum-known-b
-    number-at-requires
-    enum-known-i
-    byte-at-requires
-    enum-known-n
-    enum-known-n-2
-    enum-known-i-2
-    enum-known-b-2
+    (λ c κs. search needs)
+    (λ c. search needs)
+    (λ c κs. search needs)
+    (λ c. search needs)
+    (λ c κs. search needs)
+    (λ c. search needs)
+    (λ c. search needs)
+    (λ c. search needs)
+    (λ c. search needs)
     returns
     returns-2
     returns-3

@@ -7,36 +7,6 @@ use Rattle.reader.proofs.RootLaws.{roots-counted}
 use Rattle.reader.proofs.roots.roots_at.Statement.{statement}
 use Rattle.reader.proofs.roots.roots_at.Tie as tie
 
-slice-aggregate-keyword-at : tie.Need-slice-aggregate-keyword-at
-slice-aggregate-keyword-at c = search needs
-
-keyword-at-requires : tie.Need-keyword-at-requires
-keyword-at-requires c κs = search needs
-
-enum-known-k : tie.Need-enum-known-k
-enum-known-k c = search needs
-
-byte-count-at-requires : tie.Need-byte-count-at-requires
-byte-count-at-requires c κs = search needs
-
-enum-known-c : tie.Need-enum-known-c
-enum-known-c c = search needs
-
-root-rows-at-requires : tie.Need-root-rows-at-requires
-root-rows-at-requires c κs = search needs
-
-enum-known-rows : tie.Need-enum-known-rows
-enum-known-rows c = search needs
-
-enum-known-rows-2 : tie.Need-enum-known-rows-2
-enum-known-rows-2 c = search needs
-
-enum-known-c-2 : tie.Need-enum-known-c-2
-enum-known-c-2 c = search needs
-
-enum-known-k-2 : tie.Need-enum-known-k-2
-enum-known-k-2 c = search needs
-
 returns : tie.Need-returns
 unfolding rootsAt root
 returns c =
@@ -63,16 +33,16 @@ pub roots-at-spec : {M : Type 1} → statement M
 roots-at-spec =
     tie.close
     (tie.spec
-    slice-aggregate-keyword-at
-    keyword-at-requires
-    enum-known-k
-    byte-count-at-requires
-    enum-known-c
-    root-rows-at-requires
-    enum-known-rows
-    enum-known-rows-2
-    enum-known-c-2
-    enum-known-k-2
+    (λ c. search needs)
+    (λ c κs. search needs)
+    (λ c. search needs)
+    (λ c κs. search needs)
+    (λ c. search needs)
+    (λ c κs. search needs)
+    (λ c. search needs)
+    (λ c. search needs)
+    (λ c. search needs)
+    (λ c. search needs)
     returns
     returns-2
     returns-3

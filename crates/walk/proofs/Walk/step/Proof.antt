@@ -7,15 +7,6 @@ use borrow.Author.Needs.{needs}
 use Rattle.walk.proofs.Walk.step.Statement.{statement}
 use Rattle.walk.proofs.Walk.step.Tie as tie
 
-size-requires : tie.Need-size-requires
-size-requires c κs = search needs
-
-slice-aggregate-first-waiting : tie.Need-slice-aggregate-first-waiting
-slice-aggregate-first-waiting c = search needs
-
-first-waiting-requires : tie.Need-first-waiting-requires
-first-waiting-requires c κs = search needs
-
 returns : tie.Need-returns
 returns c = step-not _ _ _ _ _ (c .before .first-waiting .ensures) (c .before .before .before .size .ensures) (c .if1 .taken)
 
@@ -24,12 +15,6 @@ array-write-m c =
     let a = c .before .before .before .before .before .before .before .args in
     let l : length (a .self .marks) ≡ 256 = search needs in
     omega (arith, c .before .before .before .size .ensures, size-few (a .active .now))
-
-slice-aggregate-touch-all : tie.Need-slice-aggregate-touch-all
-slice-aggregate-touch-all c = search needs
-
-touch-all-requires : tie.Need-touch-all-requires
-touch-all-requires c κs = search needs
 
 returns-2 : tie.Need-returns-2
 returns-2 c =
@@ -43,11 +28,11 @@ pub step-spec : {M : Type 1} → statement M
 step-spec =
     tie.close
     (tie.spec
-    size-requires
-    slice-aggregate-first-waiting
-    first-waiting-requires
+    (λ c κs. search needs)
+    (λ c. search needs)
+    (λ c κs. search needs)
     returns
     array-write-m
-    slice-aggregate-touch-all
-    touch-all-requires
+    (λ c. search needs)
+    (λ c κs. search needs)
     returns-2)
