@@ -1,4 +1,4 @@
-// The calls of the library for C and Rust. Each takes any input. An answer of numbers goes to a lent list, in the order of the refusal table's values; a list that is too short for it keeps what it has.
+// The calls of the library for C and Rust. Each takes any input and returns the number of its refusal, 0 where there is none. An answer of numbers goes to a lent list too, in the order of the refusal table's values; a list that is too short for it keeps what it has.
 use format::Address;
 use format::Checked;
 use format::number;
@@ -47,8 +47,9 @@ fn put_eight(out: &mut [u64], a: u64, b: u64, c: u64, d: u64, e: u64, f: u64, g:
 
 // The checker: number, place, model/level, and the counts of registers, register instances, nodes, node instances and roots.
 #[no_mangle]
-pub extern "C" fn lutemarble_check(file: &[u8], out: &mut [u64])
-    ensures { λ r. ⌜ now (out .exit) ≡ answered (checkList (check (now (file .entry)))) (now (out .entry)) ⌝ }
+pub extern "C" fn lutemarble_check(file: &[u8], out: &mut [u64]) -> u64
+    ensures number { λ r. ⌜ r ≡ check (now (file .entry)) .number ⌝ }
+    ensures answer { λ r. ⌜ now (out .exit) ≡ answered (checkList (check (now (file .entry)))) (now (out .entry)) ⌝ }
 {
     let c = check(file);
     match c {
@@ -64,27 +65,34 @@ pub extern "C" fn lutemarble_check(file: &[u8], out: &mut [u64])
                 s.node_instances as u64,
                 s.roots as u64,
             );
+            0
         }
         Checked::Refused(r) => {
             let kind = r.kind;
-            put_eight(out, number(kind) as u64, r.place as u64, 0, 0, 0, 0, 0, 0);
+            let n = number(kind) as u64;
+            put_eight(out, n, r.place as u64, 0, 0, 0, 0, 0, 0);
+            n
         }
     }
 }
 
 // The address query: number, place, offset and size.
 #[no_mangle]
-pub extern "C" fn lutemarble_address(file: &[u8], id: u64, instance: u8, out: &mut [u64])
-    ensures { λ r. ⌜ now (out .exit) ≡ answered (addressList (address (now (file .entry)) id instance)) (now (out .entry)) ⌝ }
+pub extern "C" fn lutemarble_address(file: &[u8], id: u64, instance: u8, out: &mut [u64]) -> u64
+    ensures number { λ r. ⌜ r ≡ address (now (file .entry)) id instance .number ⌝ }
+    ensures answer { λ r. ⌜ now (out .exit) ≡ answered (addressList (address (now (file .entry)) id instance)) (now (out .entry)) ⌝ }
 {
     let a = address(file, id, instance);
     match a {
         Address::At(offset, size) => {
             put_four(out, 0, 0, offset as u64, size as u64);
+            0
         }
         Address::Refused(r) => {
             let kind = r.kind;
-            put_four(out, number(kind) as u64, r.place as u64, 0, 0);
+            let n = number(kind) as u64;
+            put_four(out, n, r.place as u64, 0, 0);
+            n
         }
     }
 }
@@ -98,18 +106,24 @@ pub extern "C" fn lutemarble_isolate(
     read: &[u8],
     list: &mut [u8],
     out: &mut [u64],
-)
-    ensures { λ r. ⌜ now (list .exit) ≡ isolate (now (file .entry)) attention (now (words .entry)) (now (read .entry)) (now (list .entry)) .list ⌝ }
-    ensures { λ r. ⌜ now (out .exit) ≡ answered (isolateList (isolate (now (file .entry)) attention (now (words .entry)) (now (read .entry)) (now (list .entry)))) (now (out .entry)) ⌝ }
+) -> u64
+    ensures number { λ r. ⌜ r ≡ isolate (now (file .entry)) attention (now (words .entry)) (now (read .entry)) (now (list .entry)) .number ⌝ }
+    ensures list { λ r. ⌜ now (list .exit)
+        ≡ isolate (now (file .entry)) attention (now (words .entry)) (now (read .entry)) (now (list .entry)) .list ⌝ }
+    ensures answer { λ r. ⌜ now (out .exit)
+        ≡ answered (isolateList (isolate (now (file .entry)) attention (now (words .entry)) (now (read .entry)) (now (list .entry)))) (now (out .entry)) ⌝ }
 {
     let a = isolate(file, attention, words, read, list);
     match a {
         Isolated::Done(i) => {
             put_four(out, 0, 0, i.records as u64, i.steps as u64);
+            0
         }
         Isolated::Refused(refusal) => {
             let kind = refusal.kind;
-            put_four(out, number(kind) as u64, refusal.place as u64, 0, 0);
+            let refused = number(kind) as u64;
+            put_four(out, refused, refusal.place as u64, 0, 0);
+            refused
         }
     }
 }

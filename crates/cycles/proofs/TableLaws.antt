@@ -18,7 +18,7 @@ use Rattle.graph.specs.Paths.{Path, Inside, reached, onCycle}
 use Rattle.graph.specs.Chains.{names, linked, reachedFrom}
 use Rattle.graph.proofs.BelowLaws.{any-in, any-out, any-same}
 use Rattle.graph.proofs.PathsLaws.{reached-law, cycle-law}
-use Rattle.walk.specs.TableGraph.{sizeOf, childAt, tableGraph}
+use Rattle.walk.specs.TableGraph.{tableSize, childAt, tableGraph}
 use Rattle.walk.specs.Fold.{orElse}
 use Rattle.walk.specs.Marks.{finished}
 use Rattle.walk.proofs.Tables.{child-in}
@@ -91,8 +91,8 @@ ones-bit b h =
 
 -- A walk over n node instances all of whose bits are active.
 module _ (n : ℕ) (few : n ≤ 256) (ch act : List ℕ) (sized : length act ≡ n) (ones : (i : ℕ) → i < n → getD act i 0 ≡ 18446744073709551615) where
-  size-all : sizeOf act ≡ n
-  unfolding sizeOf
+  size-all : tableSize act ≡ n
+  unfolding tableSize
   size-all = omega arith
 
   linked-all : (i j : ℕ) → linked (tableGraph act ch) i j ≡ tableEdge n ch i j

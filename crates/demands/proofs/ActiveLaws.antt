@@ -12,16 +12,18 @@ use lib.ListN.{length}
 use borrow.Author.Tests.{eqb-true}
 use Rattle.numbers.specs.Bits.{bitOf}
 use Rattle.numbers.proofs.Bools.{either, clash, and-left, and-right, and-both}
+use Rattle.format.specs.Finding.{childFor, childPosition}
+use Rattle.format.specs.Limits.{levels}
 use Rattle.format.specs.Lookup.{some, at, NodeEntry, nodeEntries, nodePosition}
-use Rattle.format.specs.Meaning.{valueOf}
+use Rattle.format.specs.Meaning.{valueWithin}
 use Rattle.format.specs.References.{Fault}
 use Rattle.format.specs.Rules.{NamesUnique}
 use Rattle.format.specs.Tree.{Rule, Chip}
 use Rattle.format.proofs.FaultsLaws.{at-none, below?, some-none}
 use Rattle.format.proofs.PositionsLaws.{every-at, at-inside, some-one}
-use Rattle.isolation.specs.ChipGraph.{childFor, ruleUnread, isNone, ruleActive, entryActive, childPosition, entryChild, chipGraph}
+use Rattle.isolation.specs.ChipGraph.{ruleUnread, isNone, ruleActive, entryActive, entryChild, chipGraph}
 use Rattle.isolation.specs.Readings.{wordFor}
-use Rattle.isolation.proofs.ChipLaws.{first-none, first-some, first-key}
+use Rattle.format.proofs.FindingLaws.{first-none, first-some, first-key}
 use Rattle.demands.specs.Active.{ActiveBit, ChildOf}
 use Rattle.demands.proofs.RowsLaws.{in-at, at-in}
 use Rattle.demands.proofs.ReachedLaws.{rule-cases, rule-wanted, rule-valued, valued-rule}
@@ -35,7 +37,7 @@ never e = let z : _≡_ {A = ℕ} 0 1 = cc in absurd (omega arith)
 
 module _ (c : Chip) (words read : List ℕ) (b : ℕ) (r : Rule) where
   abbrev value : ℕ
-  value = valueOf 64 (wordFor c words) (r .expression)
+  value = valueWithin levels 64 (wordFor c words) (r .expression)
 
   rule-out : ruleActive c words read b r ≡ true → (ruleUnread c read r ≡ []) × (bitOf 64 value b ≡ true)
   unfolding ruleActive

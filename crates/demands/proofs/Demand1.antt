@@ -1,18 +1,22 @@
 -- Demand 1 holds of the definition of isolation.
 use Prim.Native.Nat.{ℕ, _*_, _/_, _≤_}
 use mathlib.Core.List.{List, _++_}
-use mathlib.Core.Logic.{inl, inr, ⊎-elim}
-use mathlib.Core.Path.{_≡_, refl, _∙_, ap}
+use mathlib.Core.Logic.{_⊎_, inl, inr, ⊎-elim}
+use mathlib.Core.Path.{_≡_, refl, sym, _∙_, ap, subst}
 use native.Mathlib.Omega.{arith}
 use lib.ListN.{length, drop, length-append, length-drop}
 use borrow.Author.Tests.{leb-true}
 use Rattle.format.specs.Lookup.{nodePosition}
 use Rattle.isolation.specs.ChipGraph.{chipGraph}
-use Rattle.isolation.specs.Outcome.{isolate}
+use Rattle.format.proofs.NumberedLaws.{kind-some}
+use Rattle.isolation.specs.declared.Isolated
+use Rattle.isolation.specs.declared.Isolated.{Isolated}
+use Rattle.isolation.specs.declared.Isolation.{Isolation}
+use Rattle.isolation.specs.Outcome.{outcomeOf, isolate}
 use Rattle.listing.specs.Records.{recordSize, listing, recordsOf}
 use Rattle.isolation.proofs.GraphsLaws.{listing-length}
 use Rattle.isolation.proofs.OutcomeLaws.{Refused, Succeeds, succeeds-in, outcome-cases}
-use Rattle.demands.specs.Demand1.{RefusedCall, Demand1}
+use Rattle.demands.specs.Demand1.{RefusedCall, Demand1, Refuses}
 
 module _ (file : List ℕ) (attention : ℕ) (words read list : List ℕ) where
   refused-call : Refused list (isolate file attention words read list) → RefusedCall list (isolate file attention words read list)
@@ -42,3 +46,21 @@ module _ (file : List ℕ) (attention : ℕ) (words read list : List ℕ) where
         ends = ⊎-elim (λ r. inr (refused-call r)) (λ s. inl (ap (λ o. o .number) (succeeds-in file attention words read list s))) (outcome-cases file attention words read list);
         sized = ⊎-elim (λ r. ap (λ o. length (o .list)) (r .is)) success-length (outcome-cases file attention words read list);
       }
+
+  -- What the contract of `isolation::isolate` allows keeps to it.
+  module _ (r : Isolated) (after : List ℕ) (promised : outcomeOf r after ≡ isolate file attention words read list) where
+    done-or-refused : (r : Isolated) → (outcomeOf r after .number ≡ 0) ⊎ RefusedCall list (outcomeOf r after)
+        → ((i : Isolation) × (r ≡ Isolated.Done i)) ⊎ RefusedCall list (outcomeOf r after)
+    done-or-refused (Isolated.Done i) e = inl (i, refl)
+    done-or-refused (Isolated.Refused x) e = ⊎-elim (λ z. absurd (omega (arith, z, kind-some (x .kind)))) (λ z. inr z) e
+
+    list-after : (r : Isolated) → outcomeOf r after .list ≡ after
+    list-after (Isolated.Done i) = refl
+    list-after (Isolated.Refused x) = refl
+
+    pub refuses : Refuses list r after
+    refuses =
+        record {
+          ends = done-or-refused r (subst (λ o. (o .number ≡ 0) ⊎ RefusedCall list o) (sym promised) (demand1 .ends));
+          sized = ap length (sym (list-after r)) ∙ ap (λ o. length (o .list)) promised ∙ demand1 .sized;
+        }

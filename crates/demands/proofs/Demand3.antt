@@ -7,38 +7,36 @@ use native.Mathlib.Omega.{arith}
 use lib.Dec.{eqb, ltb, leb}
 use lib.ListN.{length, drop}
 use borrow.Author.Tests.{eqb-true, eq-eqb, leb-true, le-leb, ltb-false, le-ltb, not-true}
-use Rattle.numbers.proofs.BigEndianLaws.{Bytes}
+use Rattle.numbers.specs.BigEndian.{Bytes}
 use Rattle.numbers.proofs.Bools.{and-left, and-right, and-both}
 use Rattle.graph.specs.Chains.{Graph, Sound, reachedFrom, reachedCount}
 use Rattle.graph.proofs.BelowLaws.{count-le}
 use Rattle.format.specs.Fields.{knownAttention}
+use Rattle.format.specs.Limits.{nodeLimit}
 use Rattle.format.specs.Lookup.{some, registerEntries, nodeEntries, nodePosition}
-use Rattle.format.specs.Parsed.{done}
 use Rattle.format.specs.Rules.{Every, Meets}
 use Rattle.format.specs.Tree.{Root, Chip}
-use Rattle.format.specs.Verdict.{verdict}
-use Rattle.format.proofs.Acceptance.{acceptance, read-to-end}
+use Rattle.format.proofs.NumberedLaws.{kind-some}
 use Rattle.format.proofs.EveryLaws.{or-false-left, or-false-right}
-use Rattle.isolation.specs.ChipGraph.{rootFor, chipGraph}
-use Rattle.isolation.specs.Outcome.{doneOutcome, reachedUnread, isolate}
+use Rattle.format.specs.Finding.{rootFor}
+use Rattle.format.proofs.FindingLaws.{first-out, first-key, root-inside}
+use Rattle.walk.specs.Marks.{finished}
+use Rattle.walk.proofs.StepsLaws.{step-count}
+use Rattle.walk.proofs.WalkLaws.{steps-reached}
+use Rattle.isolation.specs.ChipGraph.{chipGraph}
+use Rattle.isolation.specs.declared.Isolated
+use Rattle.isolation.specs.declared.Isolated.{Isolated}
+use Rattle.isolation.specs.declared.Isolation.{Isolation}
+use Rattle.isolation.specs.Outcome.{doneOutcome, outcomeOf, reachedUnread, isolate}
 use Rattle.isolation.specs.Readings.{readingsFit}
 use Rattle.listing.specs.Records.{recordSize, listing, recordsOf}
-use Rattle.isolation.proofs.ChipLaws.{first-out, first-key, root-inside, chip-sound}
+use Rattle.isolation.proofs.ChipLaws.{chip-sound}
 use Rattle.isolation.proofs.OutcomeLaws.{Succeeds, succeeds-in, succeeds-out}
-use Rattle.demands.specs.Demand3.{Accepted, RootAt, ReadingsFit, Possible, Answer, Demand3}
+use Rattle.demands.specs.Demand3.{RootAt, ReadingsFit, Possible, Answer, Demand3, Isolates}
+use Rattle.demands.proofs.Demand2.{accepted-out, accepted-in}
 use Rattle.demands.proofs.RowsLaws.{every-in, in-at, at-in}
 use Rattle.demands.proofs.ListingLaws.{listing-named, named-listing, instances, instances-reached, instances-different, instances-counted}
 use Rattle.demands.proofs.ReachedLaws.{valued-out, valued-in}
-
--- Accepted
-
-pub accepted-out : (file : List ℕ) → Bytes file → {c : Chip} {end : ℕ} → verdict file ≡ done c end → Accepted file c
-accepted-out file bytes {c} {end} e =
-    let a = acceptance file bytes c .0 (e ∙ ap (done c) (read-to-end file bytes e)) in
-    record { encoded = a .0; placed = a .1; meets = a .2 }
-
-pub accepted-in : (file : List ℕ) → Bytes file → {c : Chip} → Accepted file c → verdict file ≡ done c (length file)
-accepted-in file bytes {c} a = acceptance file bytes c .1 (a .encoded, a .placed, a .meets)
 
 -- The root
 
@@ -128,6 +126,10 @@ module _ (file : List ℕ) (bytes : Bytes file) (attention : ℕ) (words read li
     unfolding chipGraph
     inside = root-below (p .chip) (p .accepted .meets) attention (p .root) (p .rooted)
 
+    few : graph .size ≤ 256
+    unfolding chipGraph nodeLimit
+    few = p .accepted .meets .limits .nodes
+
     -- The bits that demand 3 names are the listing.
     bits-are : p .bits ≡ listing graph (p .root)
     bits-are = named-listing graph sound (p .root) inside (p .bits) (p .named)
@@ -177,6 +179,9 @@ module _ (file : List ℕ) (bytes : Bytes file) (attention : ℕ) (words read li
           reached = instances-reached graph sound (p .root) inside;
           different = instances-different graph sound (p .root) inside;
           steps = n ∙ instances-counted graph sound (p .root) inside;
+          walk = finished graph (p .root);
+          counted = step-count graph sound few (p .root);
+          walked = n ∙ sym (steps-reached graph (p .root) inside);
           bounded = omega (arith, n, count-le (graph .size) (reachedFrom graph (p .root)));
         }
 
@@ -186,3 +191,19 @@ module _ (file : List ℕ) (bytes : Bytes file) (attention : ℕ) (words read li
         succeeds = (λ e. possible-out (succeeds-out file attention words read list e), λ p. ap (λ o. o .number) (outcome-is p));
         answers = answer;
       }
+
+  -- What the contract of `isolation::isolate` allows keeps to it.
+  module _ (r : Isolated) (after : List ℕ) (promised : outcomeOf r after ≡ isolate file attention words read list) where
+    done-out : (r : Isolated) → outcomeOf r after .number ≡ 0 → (i : Isolation) × (r ≡ Isolated.Done i)
+    done-out (Isolated.Done i) e = (i, refl)
+    done-out (Isolated.Refused x) e = absurd (omega (arith, e, kind-some (x .kind)))
+
+    done-in : (i : Isolation) → r ≡ Isolated.Done i → isolate file attention words read list .number ≡ 0
+    done-in i e = sym (ap (λ o. o .number) promised) ∙ ap (λ x. outcomeOf x after .number) e
+
+    pub isolates : Isolates file attention words read list r after
+    isolates =
+        record {
+          succeeds = (λ d. demand3 .succeeds .0 (done-in (d .0) (d .1)), λ p. done-out r (ap (λ o. o .number) (promised ∙ outcome-is p)));
+          answers = λ p. subst (Answer file attention words read list p) (sym promised) (answer p);
+        }

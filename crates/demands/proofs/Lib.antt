@@ -4,5 +4,6 @@ pub mod ListingLaws
 pub mod ReachedLaws
 pub mod ActiveLaws
 pub mod Demand1
+pub mod Demand2
 pub mod Demand3
 pub mod Readings

@@ -19,9 +19,10 @@ use Rattle.format.proofs.FaultsLaws.{gathered-none, none-gathered, unless-none,
 use Rattle.format.proofs.GatheredLaws.{gathered-one}
 use Rattle.format.proofs.PositionsLaws.{every-at, at-inside, inside-at}
 use Rattle.isolation.specs.Readings.{hasValue, unreadFaults}
-use Rattle.isolation.specs.ChipGraph.{ruleFor, ruleUnread}
+use Rattle.format.specs.Finding.{ruleFor}
+use Rattle.isolation.specs.ChipGraph.{ruleUnread}
 use Rattle.isolation.specs.Outcome.{entryUnread, reachedUnread}
-use Rattle.isolation.proofs.ChipLaws.{first-none, first-some, first-key}
+use Rattle.format.proofs.FindingLaws.{first-none, first-some, first-key}
 use Rattle.isolation.proofs.GraphsLaws.{every-below}
 use Rattle.demands.specs.Rows.{In}
 use Rattle.demands.specs.Demand3.{readByte, ReachedName}

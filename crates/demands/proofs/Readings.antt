@@ -8,12 +8,14 @@ use lib.Dec.{leb}
 use lib.ListN.{length, drop}
 use lib.Seq.{take-at}
 use Rattle.numbers.specs.Bits.{bitOf}
-use Rattle.numbers.proofs.BigEndianLaws.{Bytes}
+use Rattle.numbers.specs.BigEndian.{Bytes}
 use Rattle.graph.specs.Chains.{Graph, Sound, Link, below, reachedFrom, reachedCount}
 use Rattle.graph.proofs.ChainsLaws.{reached-by-chains}
 use Rattle.format.specs.Fields.{knownAttention}
+use Rattle.format.specs.Finding.{rootFor}
+use Rattle.format.specs.Limits.{levels}
 use Rattle.format.specs.Lookup.{at, gathered, NodeEntry, nodeEntries, nodePosition}
-use Rattle.format.specs.Meaning.{valueOf}
+use Rattle.format.specs.Meaning.{valueWithin}
 use Rattle.format.specs.Parsed.{Parsed, done, refused}
 use Rattle.format.specs.References.{Fault, Named, namedBy}
 use Rattle.format.specs.Rules.{Meets}
@@ -23,18 +25,20 @@ use Rattle.format.proofs.FaultsLaws.{some-none}
 use Rattle.format.proofs.GatheredLaws.{gathered-one, gathered-same}
 use Rattle.format.proofs.MeaningLaws.{value-same}
 use Rattle.format.proofs.PositionsLaws.{at-inside, some-one}
-use Rattle.isolation.specs.ChipGraph.{rootFor, ruleUnread, isNone, ruleActive, entryActive, chipGraph}
-use Rattle.isolation.specs.Outcome.{Outcome, refusedOutcome, doneOutcome, entryUnread, reachedUnread, written, allRead, fromRoot, isolateIn, isolate}
+use Rattle.isolation.specs.ChipGraph.{ruleUnread, isNone, ruleActive, entryActive, chipGraph}
+use Rattle.isolation.specs.Outcome.{Outcome, refusedOutcome, doneOutcome, entryUnread, reachedUnread, listOutcome, allRead, fromRoot, isolateIn, isolate}
 use Rattle.isolation.specs.Readings.{readingsFit, hasValue, wordFor, unreadFaults}
 use Rattle.listing.specs.Records.{recordSize, listing, recordsOf}
 use Rattle.isolation.proofs.ChipLaws.{chip-sound}
 use Rattle.isolation.proofs.GraphsLaws.{Agree, every-below, reached-below, reached-same, count-reached-same, listing-same, listing-length}
 use Rattle.demands.specs.Rows.{In}
-use Rattle.demands.specs.Demand3.{Accepted, RootAt, readByte}
+use Rattle.demands.specs.Demand2.{Accepted}
+use Rattle.demands.specs.Demand3.{RootAt, readByte}
 use Rattle.demands.specs.Readings.{AgreeOn, Alike, SameAnswer, ReadingsSettle}
 use Rattle.demands.proofs.RowsLaws.{in-every}
 use Rattle.demands.proofs.ReachedLaws.{rule-cases, rule-valued, entry-one, entry-none}
-use Rattle.demands.proofs.Demand3.{accepted-out, root-out, root-below, fit-in}
+use Rattle.demands.proofs.Demand2.{accepted-out}
+use Rattle.demands.proofs.Demand3.{root-out, root-below, fit-in}
 
 -- A rule whose registers agree
 
@@ -50,17 +54,17 @@ module _ (c : Chip) (words read words′ read′ : List ℕ) (r : Rule)
   active-same b = rw (← unread-same) (go (ruleUnread c read r) refl)
     where
       go : (fs : List Fault) → ruleUnread c read r ≡ fs
-          → isNone fs && bitOf 64 (valueOf 64 (wordFor c words) (r .expression)) b ≡ isNone fs && bitOf 64 (valueOf 64 (wordFor c words′) (r .expression)) b
+          → isNone fs && bitOf 64 (valueWithin levels 64 (wordFor c words) (r .expression)) b ≡ isNone fs && bitOf 64 (valueWithin levels 64 (wordFor c words′) (r .expression)) b
       go [] e =
           ap (λ v. bitOf 64 v b)
-          (value-same 64 (wordFor c words) (wordFor c words′) (r .expression)
+          (value-same 64 (wordFor c words) (wordFor c words′) levels (r .expression)
           (in-every _ (namedBy (r .expression)) (λ n i. agree n i .value (rule-valued c read r e n i))))
       go (f ∷ fs) e = refl
 
 -- What is written is settled by the listing and the count.
 written-by : (c : Chip) (attention root : ℕ) (list : List ℕ) (g h : Graph) → listing g root ≡ listing h root → reachedCount g root ≡ reachedCount h root
-    → written c attention g root list ≡ written c attention h root list
-unfolding written
+    → listOutcome c attention g root list ≡ listOutcome c attention h root list
+unfolding listOutcome
 written-by c attention root list g h e d = rw (e, d)
 
 -- Two graphs of one chip
@@ -142,13 +146,13 @@ module _ (c : Chip) (m : Meets c) (attention : ℕ) (words read words′ read′
           ∙ sym (gathered-one (entryUnread c attention read′) (x .0)))
       go i false t = refl
 
-  written-same : (list : List ℕ) → written c attention g root list ≡ written c attention h root list
+  written-same : (list : List ℕ) → listOutcome c attention g root list ≡ listOutcome c attention h root list
   written-same list =
       written-by c attention root list g h (listing-same g h g-sound h-sound root graphs-agree) (count-reached-same g h g-sound h-sound root graphs-agree)
 
   outcome-same : (list : List ℕ)
-      → allRead (reachedUnread c attention read g root) list (written c attention g root list)
-      ≡ allRead (reachedUnread c attention read′ h root) list (written c attention h root list)
+      → allRead (reachedUnread c attention read g root) list (listOutcome c attention g root list)
+      ≡ allRead (reachedUnread c attention read′ h root) list (listOutcome c attention h root list)
   outcome-same list = rw (reached-unread, written-same list)
 
 -- The whole answer
@@ -178,8 +182,8 @@ module _ (list list′ : List ℕ) (size : length list ≡ length list′) where
   refused-answer n p = record { number = refl; place = refl; records = refl; steps = refl; written = refl }
 
   written-answer : (c : Chip) (attention : ℕ) (g : Graph) (root : ℕ) → g .size ≡ length (nodeEntries c)
-      → SameAnswer (written c attention g root list) (written c attention g root list′)
-  unfolding written recordSize
+      → SameAnswer (listOutcome c attention g root list) (listOutcome c attention g root list′)
+  unfolding listOutcome recordSize
   written-answer c attention g root e = rw (← size) (go (leb (length (listing g root)) (length list / 8)))
     where
       ls : List Link
@@ -216,11 +220,11 @@ module _ (list list′ : List ℕ) (size : length list ≡ length list′) where
       go : (b : Bool) → SameAnswer
           (cond b
           (allRead (reachedUnread c attention read (chipGraph c attention words read) (nodePosition c (t .id) (t .number))) list
-          (written c attention (chipGraph c attention words read) (nodePosition c (t .id) (t .number)) list))
+          (listOutcome c attention (chipGraph c attention words read) (nodePosition c (t .id) (t .number)) list))
           (refusedOutcome 17 0 list))
           (cond b
           (allRead (reachedUnread c attention read (chipGraph c attention words read) (nodePosition c (t .id) (t .number))) list′
-          (written c attention (chipGraph c attention words read) (nodePosition c (t .id) (t .number)) list′))
+          (listOutcome c attention (chipGraph c attention words read) (nodePosition c (t .id) (t .number)) list′))
           (refusedOutcome 17 0 list′))
       go true =
           read-answer _ _ _ (written-answer c attention (chipGraph c attention words read) (nodePosition c (t .id) (t .number)) refl)

@@ -4,8 +4,9 @@ use mathlib.Core.Bool.{true}
 use mathlib.Core.List.{List, [], _∷_}
 use mathlib.Core.Path.{_≡_}
 use Rattle.numbers.specs.Bits.{bitOf}
+use Rattle.format.specs.Limits.{levels}
 use Rattle.format.specs.Lookup.{at, NodeEntry, nodeEntries, nodePosition}
-use Rattle.format.specs.Meaning.{valueOf}
+use Rattle.format.specs.Meaning.{valueWithin}
 use Rattle.format.specs.References.{Named, namedBy}
 use Rattle.format.specs.Tree.{Rule, Child, Chip}
 use Rattle.isolation.specs.Readings.{wordFor}
@@ -20,7 +21,7 @@ pub record ActiveBit (c : Chip) (attention : ℕ) (words read : List ℕ) (i b :
   pub own : In rule (entry .instance .rules)
   pub wanted : rule .attention ≡ attention
   pub valued : (n : Named) → In n (namedBy (rule .expression)) → readByte c read n ≡ 1
-  pub one : bitOf 64 (valueOf 64 (wordFor c words) (rule .expression)) b ≡ true
+  pub one : bitOf 64 (valueWithin levels 64 (wordFor c words) (rule .expression)) b ≡ true
 
 -- A bit "with a child entry": one of the node instance's child entries is for the bit, and names the node instance at j.
 pub record ChildOf (c : Chip) (i b j : ℕ) : Type 0 where

@@ -4,7 +4,10 @@ use mathlib.Core.List.{List}
 use mathlib.Core.Logic.{_⊎_}
 use mathlib.Core.Path.{_≡_}
 use lib.ListN.{length}
-use Rattle.isolation.specs.Outcome.{Outcome, isolate}
+use Rattle.isolation.specs.declared.Isolated
+use Rattle.isolation.specs.declared.Isolated.{Isolated}
+use Rattle.isolation.specs.declared.Isolation.{Isolation}
+use Rattle.isolation.specs.Outcome.{Outcome, outcomeOf, isolate}
 
 -- "A refused call gives one number and one place from the table in document 01, and the list buffer it was lent keeps every byte." The table's numbers are 1 to 19; document 01: "zero records and zero steps".
 pub record RefusedCall (list : List ℕ) (o : Outcome) : Type 0 where
@@ -18,3 +21,8 @@ pub record RefusedCall (list : List ℕ) (o : Outcome) : Type 0 where
 pub record Demand1 (file : List ℕ) (attention : ℕ) (words read list : List ℕ) : Type 0 where
   pub ends : (isolate file attention words read list .number ≡ 0) ⊎ RefusedCall list (isolate file attention words read list)
   pub sized : length (isolate file attention words read list .list) ≡ length list
+
+-- The same of an answer of `isolation::isolate` and the list after the call.
+pub record Refuses (list : List ℕ) (r : Isolated) (after : List ℕ) : Type 0 where
+  pub ends : ((i : Isolation) × (r ≡ Isolated.Done i)) ⊎ RefusedCall list (outcomeOf r after)
+  pub sized : length after ≡ length list

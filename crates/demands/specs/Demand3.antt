@@ -5,22 +5,20 @@ use mathlib.Core.Logic.{_⊎_, _↔_}
 use mathlib.Core.Path.{_≡_}
 use lib.ListN.{length, getD, drop}
 use Rattle.graph.specs.Chains.{Graph, Link, ReachedByChains, Listed}
-use Rattle.format.specs.Encoding.{encode}
 use Rattle.format.specs.Lookup.{at, registerEntries, registerPosition, NodeEntry, nodeEntries, nodePosition}
-use Rattle.format.specs.Placing.{Placed}
 use Rattle.format.specs.References.{Named, namedBy}
-use Rattle.format.specs.Rules.{Every, Meets}
+use Rattle.format.specs.Rules.{Every}
 use Rattle.format.specs.Tree.{Rule, Root, Chip}
+use Rattle.walk.specs.declared.Walked.{Walked}
+use Rattle.walk.specs.Steps.{StepCount}
 use Rattle.isolation.specs.ChipGraph.{chipGraph}
-use Rattle.isolation.specs.Outcome.{Outcome, isolate}
+use Rattle.isolation.specs.Outcome.{Outcome, outcomeOf, isolate}
+use Rattle.isolation.specs.declared.Isolated
+use Rattle.isolation.specs.declared.Isolated.{Isolated}
+use Rattle.isolation.specs.declared.Isolation.{Isolation}
 use Rattle.listing.specs.Records.{recordsOf}
+use Rattle.demands.specs.Demand2.{Accepted}
 use Rattle.demands.specs.Rows.{In, InOrder, Different}
-
--- "Accepted is meant as in demand 2, by the rules and not by the checker's answer": the file is the encoding of a tree, with its places, that meets the rules.
-pub record Accepted (file : List ℕ) (c : Chip) : Type 0 where
-  pub encoded : file ≡ encode c
-  pub placed : Placed c
-  pub meets : Meets c
 
 -- "The type has a root in it": a root entry of the file is for the wanted type, and this is the file position of its node instance.
 pub record RootAt (c : Chip) (attention position : ℕ) : Type 0 where
@@ -90,6 +88,10 @@ module _ (file : List ℕ) (attention : ℕ) (words read list : List ℕ) where
     pub reached : (j : ℕ) → In j instances ↔ ReachedByChains (chipGraph (p .chip) attention words read) (p .root) j
     pub different : InOrder Different instances
     pub steps : o .steps ≡ length instances
+    -- Document 01: "The step count is the number of steps from the start (root waiting, others untouched) until none waits."
+    pub walk : Walked
+    pub counted : StepCount (chipGraph (p .chip) attention words read) (p .root) walk
+    pub walked : o .steps ≡ walk .steps
     -- "So it never exceeds the node instances in the file, however many chains there are."
     pub bounded : o .steps ≤ length (nodeEntries (p .chip))
 
@@ -97,3 +99,8 @@ module _ (file : List ℕ) (attention : ℕ) (words read list : List ℕ) where
   pub record Demand3 : Type 0 where
     pub succeeds : (isolate file attention words read list .number ≡ 0) ↔ Possible
     pub answers : (p : Possible) → Answer p (isolate file attention words read list)
+
+  -- The same of an answer of `isolation::isolate` and the list after the call: it is `Done` exactly when isolation is possible, and then it is that answer.
+  pub record Isolates (r : Isolated) (after : List ℕ) : Type 0 where
+    pub succeeds : ((i : Isolation) × (r ≡ Isolated.Done i)) ↔ Possible
+    pub answers : (p : Possible) → Answer p (outcomeOf r after)

@@ -8,7 +8,8 @@ use Rattle.format.specs.Tree.{Chip}
 use Rattle.isolation.specs.ChipGraph.{chipGraph}
 use Rattle.isolation.specs.Outcome.{Outcome, isolate}
 use Rattle.isolation.specs.Readings.{wordFor}
-use Rattle.demands.specs.Demand3.{Accepted, RootAt, ReadingsFit, readByte, ReachedName}
+use Rattle.demands.specs.Demand2.{Accepted}
+use Rattle.demands.specs.Demand3.{RootAt, ReadingsFit, readByte, ReachedName}
 
 -- Two sets of readings "agree, in read byte and where read in value", on a register.
 pub record AgreeOn (c : Chip) (words read words′ read′ : List ℕ) (n : Named) : Type 0 where

@@ -18,7 +18,7 @@ use Rattle.fields.specs.declared.ByteRead
 use Rattle.fields.specs.declared.ByteRead.{ByteRead}
 use Rattle.fields.specs.declared.NextRead
 use Rattle.fields.specs.declared.NextRead.{NextRead}
-use Rattle.expressions.specs.Heads.{arityOf, built, firstOf, readingHeadAt, operandCountAt, shiftAt, operationHeadAt, headAt}
+use Rattle.expressions.specs.Heads.{arityOf, built, firstOperand, readingHeadAt, operandCountAt, shiftAt, operationHeadAt, headAt}
 use Rattle.fields.specs.Views.{refusedBy, byteParsed, nextParsed, forget}
 use Rattle.expressions.specs.Heads.{headParsed}
 use Rattle.fields.proofs.Steps.{byte-then, byte-stop}
@@ -28,11 +28,11 @@ use Rattle.fields.proofs.Parsing.{Found, found, missed, then-then, making-makin
 abbrev pub operandsOf : (ℕ → Parsed Expr) → ℕ → Head → ℕ → Parsed Expr
 operandsOf inner start h a = making (λ es. built start h es) (rowAt (λ before. inner) (arityOf h) [] a)
 
-one-operand : (inner : ℕ → Parsed Expr) (f : Expr → Expr) (at : ℕ) → making f (inner at) ≡ making (λ es. f (firstOf es)) (rowAt (λ before. inner) 1 [] at)
+one-operand : (inner : ℕ → Parsed Expr) (f : Expr → Expr) (at : ℕ) → making f (inner at) ≡ making (λ es. f (firstOperand es)) (rowAt (λ before. inner) 1 [] at)
 unfolding rowAt andThen making
 one-operand inner f at = go (inner at)
   where
-    go : (q : Parsed Expr) → making f q ≡ making (λ es. f (firstOf es)) (andThen q (λ a next. making (λ rest. a ∷ rest) (done [] next)))
+    go : (q : Parsed Expr) → making f q ≡ making (λ es. f (firstOperand es)) (andThen q (λ a next. making (λ rest. a ∷ rest) (done [] next)))
     go (done a m) = refl
     go (refused k m) = refl
 

@@ -1,2 +1,4 @@
--- The laws of heads.
+-- The laws of heads, of operands in a row, and of the names in an expression.
 pub mod HeadLaws
+pub mod OperandsLaws
+pub mod NamesLaws

@@ -26,9 +26,9 @@ arityOf Inverse = 1
 arityOf (Left k) = 1
 arityOf (Right k) = 1
 
-abbrev pub firstOf : List Expr → Expr
-firstOf [] = constant 0
-firstOf (e ∷ es) = e
+abbrev pub firstOperand : List Expr → Expr
+firstOperand [] = constant 0
+firstOperand (e ∷ es) = e
 
 -- The expression that a head and its operands make; the head stands at `start`.
 abbrev pub built : ℕ → Head → List Expr → Expr
@@ -36,9 +36,9 @@ built start (Reading id n) es = reading start id n
 built start (Constant v) es = constant v
 built start (All n) es = all (gather es)
 built start (Any n) es = any (gather es)
-built start Inverse es = inverse (firstOf es)
-built start (Left k) es = left k (firstOf es)
-built start (Right k) es = right k (firstOf es)
+built start Inverse es = inverse (firstOperand es)
+built start (Left k) es = left k (firstOperand es)
+built start (Right k) es = right k (firstOperand es)
 
 -- A register ID and an instance.
 unfoldable pub readingHeadAt : List ℕ → ℕ → Parsed Head

@@ -1,2 +1,3 @@
 -- Expressions as heads with operands.
 pub mod Heads
+pub mod Names

@@ -1,9 +1,8 @@
 -- From a byte, a number and a keyword to what the layout calls a field.
 use Prim.Native.Nat.{ℕ, suc, _+_, _-_, _%_, _≤_, _<_}
 use mathlib.Core.Path.{_≡_, refl, sym, _∙_, ap}
-use mathlib.Core.Bool.{Bool, true, false, cond, _&&_}
+use mathlib.Core.Bool.{Bool, true, false, _&&_}
 use mathlib.Core.List.{List, [], _∷_}
-use native.Mathlib.Omega.{arith}
 use native.Mathlib.Nat.{add-sub-cancel-left}
 use borrow.Author.Tests.{eq-eqb, ne-eqb, le-leb, lt-leb}
 use lib.ListN.{length, take, drop, getD, drop-of-length-le}
@@ -14,45 +13,33 @@ use Rattle.numbers.specs.declared.NumberRead
 use Rattle.numbers.specs.declared.NumberRead.{NumberRead}
 use Rattle.numbers.specs.declared.ByteRead
 use Rattle.numbers.specs.declared.ByteRead.{ByteRead}
-use Rattle.numbers.specs.Field.{present, field, numberAt, byteAt}
+use Rattle.numbers.specs.Field.{readWith, notWhole, numberValues, byteValues, numberAt}
 use Rattle.numbers.proofs.Bools.{or-right, and-both}
-use Rattle.numbers.proofs.FieldLaws.{present-yes, present-no}
+use Rattle.numbers.proofs.FieldLaws.{present-yes, present-no, read-means, cut-means}
 use Rattle.format.specs.Parsed.{done, refused, require}
 use Rattle.format.specs.Fields.{fieldAt, same, keywordAt, knownType, knownFlags, knownAttention}
 
-module _ (s : List ℕ) (at : ℕ) where
-  pub byte-there : {x : ByteRead} {v n : ℕ} → x ≡ byteAt s at → x ≡ ByteRead.Byte v n → done v n ≡ fieldAt s at 1
-  unfolding byteAt fieldAt require
-  byte-there {x} {v} {n} e g = go (present s at 1) (sym g ∙ e)
-    where
-      go : (b : Bool) → ByteRead.Byte v n ≡ cond b (ByteRead.Byte (field s at 1) (at + 1)) ByteRead.Cut → done v n ≡ require b 2 at (λ _. done (field s at 1) (at + 1))
-      go true h = cc
-      go false h = let z : _≡_ {A = ℕ} 0 1 = cc in absurd (omega arith)
-
-  pub byte-absent : {x : ByteRead} → x ≡ byteAt s at → x ≡ ByteRead.Cut → refused 2 at ≡ fieldAt s at 1
-  unfolding byteAt fieldAt require
-  byte-absent {x} e g = go (present s at 1) (sym g ∙ e)
-    where
-      go : (b : Bool) → ByteRead.Cut ≡ cond b (ByteRead.Byte (field s at 1) (at + 1)) ByteRead.Cut → refused 2 at ≡ require b 2 at (λ _. done (field s at 1) (at + 1))
-      go true h = let z : _≡_ {A = ℕ} 0 1 = cc in absurd (omega arith)
-      go false h = refl
-
+-- What a reader of numbers answers is what the layout reads.
 module _ (s : List ℕ) (at w : ℕ) where
-  pub number-there : {x : NumberRead} {v n : ℕ} → x ≡ numberAt s at w → x ≡ NumberRead.Number v n → done v n ≡ fieldAt s at w
-  unfolding numberAt fieldAt require
-  number-there {x} {v} {n} e g = go (present s at w) (sym g ∙ e)
-    where
-      go : (b : Bool) → NumberRead.Number v n ≡ cond b (NumberRead.Number (field s at w) (at + w)) NumberRead.Cut → done v n ≡ require b 2 at (λ _. done (field s at w) (at + w))
-      go true h = cc
-      go false h = let z : _≡_ {A = ℕ} 0 1 = cc in absurd (omega arith)
+  there : {v n : ℕ} → readWith v n ≡ numberAt s at w → done v n ≡ fieldAt s at w
+  unfolding fieldAt require
+  there e = let h = read-means s at w e in rw (h .there, h .is, h .after)
 
-  pub number-absent : {x : NumberRead} → x ≡ numberAt s at w → x ≡ NumberRead.Cut → refused 2 at ≡ fieldAt s at w
-  unfolding numberAt fieldAt require
-  number-absent {x} e g = go (present s at w) (sym g ∙ e)
-    where
-      go : (b : Bool) → NumberRead.Cut ≡ cond b (NumberRead.Number (field s at w) (at + w)) NumberRead.Cut → refused 2 at ≡ require b 2 at (λ _. done (field s at w) (at + w))
-      go true h = let z : _≡_ {A = ℕ} 0 1 = cc in absurd (omega arith)
-      go false h = refl
+  absent : notWhole ≡ numberAt s at w → refused 2 at ≡ fieldAt s at w
+  unfolding fieldAt require
+  absent e = rw (present-no s at w (cut-means s at w e))
+
+  pub number-there : {x : NumberRead} {v n : ℕ} → numberValues x ≡ numberAt s at w → x ≡ NumberRead.Number v n → done v n ≡ fieldAt s at w
+  number-there e g = there (sym (ap numberValues g) ∙ e)
+
+  pub number-absent : {x : NumberRead} → numberValues x ≡ numberAt s at w → x ≡ NumberRead.Cut → refused 2 at ≡ fieldAt s at w
+  number-absent e g = absent (sym (ap numberValues g) ∙ e)
+
+  pub byte-there : {x : ByteRead} {v n : ℕ} → byteValues x ≡ numberAt s at w → x ≡ ByteRead.Byte v n → done v n ≡ fieldAt s at w
+  byte-there e g = there (sym (ap byteValues g) ∙ e)
+
+  pub byte-absent : {x : ByteRead} → byteValues x ≡ numberAt s at w → x ≡ ByteRead.Cut → refused 2 at ≡ fieldAt s at w
+  byte-absent e g = absent (sym (ap byteValues g) ∙ e)
 
 pub ruleset field-laws = (byte-there, byte-absent, number-there, number-absent)
 

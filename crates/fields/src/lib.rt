@@ -3,7 +3,9 @@ use format::Kind;
 use format::Refusal;
 use numbers::Width;
 ghost use mathlib.Core.Path.{_≡_};
+ghost use lib.Dec.{eqb};
 ghost use Rattle.numbers.specs.Field.{sizeOf};
+ghost use Rattle.format.specs.Parsed.{requiring};
 ghost use Rattle.format.specs.Fields.{fieldAt, same, keywordAt, countAt, typeAt, flagsAt, attentionAt};
 ghost use Rattle.fields.specs.Views.{byteParsed, numberParsed, nextParsed};
 
@@ -98,9 +100,9 @@ pub fn number_count_at(s: &[u8], at: usize, w: Width) -> NumberRead
 {
     let b = number_at(s, at, w);
     match b {
-        NumberRead::Number(n, next) => {
-            if 0 < n {
-                return NumberRead::Number(n, next);
+        NumberRead::Number(count, next) => {
+            if 0 < count {
+                return NumberRead::Number(count, next);
             }
             NumberRead::Refused(Refusal {
                 kind: Kind::ZeroCount,
@@ -108,6 +110,25 @@ pub fn number_count_at(s: &[u8], at: usize, w: Width) -> NumberRead
             })
         }
         NumberRead::Refused(r) => NumberRead::Refused(r),
+    }
+}
+
+// The version: 1.
+pub fn version_at(s: &[u8], at: usize) -> ByteRead
+    ensures { λ r. ⌜ byteParsed r ≡ requiring (eqb 1) 4 at (fieldAt (now (s .entry)) at 1) ⌝ }
+{
+    let b = byte_at(s, at);
+    match b {
+        ByteRead::Byte(version, next) => {
+            if version == 1 {
+                return ByteRead::Byte(version, next);
+            }
+            ByteRead::Refused(Refusal {
+                kind: Kind::WrongVersion,
+                place: at,
+            })
+        }
+        ByteRead::Refused(r) => ByteRead::Refused(r),
     }
 }
 

@@ -8,7 +8,7 @@ use native.Mathlib.Omega.{arith}
 use lib.ListN.{length, length-take}
 use lib.Seq.{take-all, take-length}
 use borrow.Author.Tests.{leb-true, le-leb}
-use Rattle.numbers.proofs.BigEndianLaws.{Bytes}
+use Rattle.numbers.specs.BigEndian.{Bytes}
 use Rattle.format.specs.Limits.{fileLimit}
 use Rattle.format.specs.Parsed.{done}
 use Rattle.format.specs.Tree.{Chip}
@@ -118,3 +118,7 @@ acceptance s bytes c = (out, λ h. back (h .0) (h .1) (h .2))
           whole = omega arith;
           faultless = none-append (references-in c (m .present) (m .fit)) (cycles-in c (m .acyclic));
         })
+
+-- The tree of an accepted file meets the rules.
+pub verdict-meets : (s : List ℕ) → Bytes s → {c : Chip} {end : ℕ} → verdict s ≡ done c end → Meets c
+verdict-meets s bytes {c} e = acceptance s bytes c .0 (e ∙ ap (done c) (read-to-end s bytes e)) .2

@@ -10,8 +10,7 @@ use lib.Dec.{lit<, ltb}
 use lib.Pow.{areBytes}
 use lib.ListN.{length, take, length-append}
 use lib.Seq.{take-append-seam, take-length}
-use Rattle.numbers.specs.BigEndian.{bytesOf}
-use Rattle.numbers.proofs.BigEndianLaws.{Bytes}
+use Rattle.numbers.specs.BigEndian.{bytesOf, Bytes}
 use Rattle.numbers.proofs.Bools.{and-left, and-right}
 use Rattle.format.specs.Limits.{chipdata, regs, node, root}
 use Rattle.format.specs.Fields.{addressSize}

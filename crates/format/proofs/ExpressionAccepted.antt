@@ -7,8 +7,8 @@ use native.Mathlib.Omega.{arith}
 use lib.Dec.{eqb, lit<}
 use lib.ListN.{length}
 use borrow.Author.Tests.{eqb-true, leb-true, le-leb}
-use Rattle.numbers.specs.BigEndian.{bytesOf}
-use Rattle.numbers.proofs.BigEndianLaws.{Bytes, length-bytes}
+use Rattle.numbers.specs.BigEndian.{bytesOf, Bytes}
+use Rattle.numbers.proofs.BigEndianLaws.{length-bytes}
 use Rattle.format.specs.Parsed.{done, rowAt}
 use Rattle.format.specs.Fields.{fieldAt}
 use Rattle.format.specs.Lookup.{gathered}

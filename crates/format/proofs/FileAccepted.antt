@@ -7,8 +7,7 @@ use native.Mathlib.Omega.{arith}
 use lib.Dec.{lit<}
 use lib.ListN.{length}
 use borrow.Author.Tests.{eqb-true}
-use Rattle.numbers.specs.BigEndian.{bytesOf}
-use Rattle.numbers.proofs.BigEndianLaws.{Bytes}
+use Rattle.numbers.specs.BigEndian.{bytesOf, Bytes}
 use Rattle.format.specs.Limits.{chipdata, root}
 use Rattle.format.specs.Parsed.{done}
 use Rattle.format.specs.Fields.{knownAttention, attentionAt}

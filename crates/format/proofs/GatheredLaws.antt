@@ -13,6 +13,12 @@ pub gathered-one : {A B : Type 0} (f : A → List B) (x : A) → gathered f (x �
 unfolding gathered
 gathered-one f x = append-nil (f x)
 
+-- One for each element.
+pub gathered-each : {A B : Type 0} (f : A → B) (xs : List A) → gathered (λ x. f x ∷ []) xs ≡ map f xs
+unfolding gathered
+gathered-each f [] = refl
+gathered-each f (x ∷ xs) = ap (λ r. f x ∷ r) (gathered-each f xs)
+
 pub gathered-map : {A B C : Type 0} (f : B → List C) (g : A → B) (xs : List A) → gathered f (map g xs) ≡ gathered (λ x. f (g x)) xs
 unfolding gathered
 gathered-map f g [] = refl

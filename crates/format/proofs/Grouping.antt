@@ -8,7 +8,7 @@ use Rattle.format.specs.Lookup.{gathered, RegisterEntry, entriesOf, regi
 use Rattle.format.specs.RegisterLayout.{registerTotal}
 use Rattle.format.specs.NodeLayout.{nodeTotal}
 use Rattle.format.specs.Placing.{Placed}
-use Rattle.format.specs.Rules.{Every, allCaptures, allRules, allChildren, FieldsFit, CountsNotZero, ValuesKnown, NamesUnique, WithinLimits, ExpressionsSound}
+use Rattle.format.specs.Rules.{Every, allCaptures, allRules, allChildren, FieldsFit, CountsNotZero, ValuesKnown, NamesUnique, WithinLimits, ExpressionsSound, Meets}
 use Rattle.format.proofs.EveryLaws.{every-map, every-both, every-gathered-out, every-gathered-in, every-list-out, every-list-in}
 use Rattle.format.proofs.NodePartsAccepted.{CaptureAlone, RuleAlone, ChildAlone}
 use Rattle.format.proofs.NodeInstancesAccepted as nodes
@@ -23,6 +23,19 @@ pub record LayoutMeets (c : Chip) : Type 0 where
   pub limits : WithinLimits c
   pub expressions : ExpressionsSound c
   pub bits : Every (λ k. k .bit < 64) (allChildren c)
+
+-- The rules of the layout are some of the rules.
+pub layout-of : {c : Chip} → Meets c → LayoutMeets c
+layout-of m =
+    record {
+      fields = m .fields;
+      counts = m .counts;
+      known = m .known;
+      unique = m .unique;
+      limits = m .limits;
+      expressions = m .expressions;
+      bits = m .bits;
+    }
 
 pub register-count : (rs : List Register) → length (gathered entriesOf rs) ≡ registerTotal rs
 unfolding gathered entriesOf registerTotal

@@ -15,6 +15,7 @@ pub mod Grouping
 pub mod Acceptance
 pub mod EncodingLaws
 pub mod PositionsLaws
+pub mod FindingLaws
 pub mod PlacesLaws
 pub mod NumberedLaws
 pub mod MeaningLaws

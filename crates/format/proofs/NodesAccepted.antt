@@ -7,8 +7,8 @@ use native.Mathlib.Omega.{arith}
 use lib.Dec.{lit<}
 use lib.ListN.{length, length-append}
 use borrow.Author.Tests.{ltb-true, lt-ltb}
-use Rattle.numbers.specs.BigEndian.{bytesOf}
-use Rattle.numbers.proofs.BigEndianLaws.{Bytes, length-bytes}
+use Rattle.numbers.specs.BigEndian.{bytesOf, Bytes}
+use Rattle.numbers.proofs.BigEndianLaws.{length-bytes}
 use Rattle.format.specs.Limits.{nodeLimit, node}
 use Rattle.format.specs.Parsed.{done}
 use Rattle.format.specs.Fields.{countAt, knownType, typeAt, fresh}

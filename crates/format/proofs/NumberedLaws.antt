@@ -6,7 +6,7 @@ use mathlib.Core.Path.{_≡_, refl, sym}
 use lib.Dec.{leb, lit<}
 use borrow.Author.Tests.{leb-true}
 use Rattle.numbers.proofs.Bools.{and-left, and-right}
-use Rattle.format.specs.declared.Kind.the-variants.{FileTooLong, FieldCut, WrongKeyword, WrongVersion, ZeroCount, UnknownValue, Duplicate, TooManyInstances, BadExpression, BitTooHigh, BytesAfterEnd, NameAbsent, RegisterUnfit, ChildCycle, BadAttentionType, NoRoot, ReadingsUnfit, RegisterUnread, NoRoom}
+use Rattle.format.specs.declared.Kind.the-variants.{FileTooLong, FieldCut, WrongKeyword, WrongVersion, ZeroCount, UnknownValue, Duplicate, TooManyInstances, BadExpression, BitTooHigh, BytesAfterEnd, NameAbsent, RegisterUnfit, ChildCycle, BadAttentionType, NoRoot, ReadingsUnfit, RegisterUnread, NoRoom, TableTooShort}
 use Rattle.format.specs.declared.Kind.{Kind}
 use Rattle.format.specs.Parsed.{Parsed, done, refused, andThen, making, require, requiring, rowAt}
 use Rattle.format.specs.Fields.{fieldAt, keywordAt, countAt, typeAt, flagsAt, attentionAt}
@@ -45,6 +45,7 @@ kind-some NoRoot = lit< tt
 kind-some ReadingsUnfit = lit< tt
 kind-some RegisterUnread = lit< tt
 kind-some NoRoom = lit< tt
+kind-some TableTooShort = lit< tt
 
 abbrev InTable : ℕ → Type 0
 InTable n = leb 1 n && leb n 14 ≡ true

@@ -5,8 +5,8 @@ use mathlib.Core.Path.{_≡_, refl, sym, _∙_, ap, subst}
 use native.Mathlib.Omega.{arith}
 use lib.ListN.{length, take, drop, length-append}
 use lib.Seq.{take-length}
-use Rattle.numbers.specs.BigEndian.{bytesOf}
-use Rattle.numbers.proofs.BigEndianLaws.{Bytes, length-bytes}
+use Rattle.numbers.specs.BigEndian.{bytesOf, Bytes}
+use Rattle.numbers.proofs.BigEndianLaws.{length-bytes}
 use Rattle.format.specs.Limits.{levels}
 use Rattle.format.specs.Parsed.{done}
 use Rattle.format.specs.Fields.{addressSize}

@@ -1,14 +1,14 @@
 -- In an accepted file a name means one position: register instances and node instances are unique.
-use Prim.Native.Nat.{ℕ, zero, suc, _+_, _<_}
+use Prim.Native.Nat.{ℕ, zero, suc, _+_, _≤_, _<_}
 use mathlib.Core.Bool.{Bool, true, false, cond, _&&_, _||_}
 use mathlib.Core.List.{List, [], _∷_, _++_, map}
-use mathlib.Core.Logic.{⊎-elim}
+use mathlib.Core.Logic.{_⊎_, inl, inr, ⊎-elim}
 use mathlib.Core.Path.{_≡_, refl, sym, _∙_, ap, subst}
 use native.Mathlib.Omega.{arith}
-use lib.Dec.{eqb}
+use lib.Dec.{eqb, ltb}
 use lib.ListN.{length}
-use borrow.Author.Tests.{eqb-true, eq-eqb}
-use Rattle.numbers.proofs.Bools.{clash, and-left, and-right, or-left, or-right, or-cases}
+use borrow.Author.Tests.{eqb-true, eq-eqb, lt-ltb, le-ltb, ltb-true, ltb-false}
+use Rattle.numbers.proofs.Bools.{either, clash, and-left, and-right, or-left, or-right, or-cases}
 use Rattle.format.specs.Fields.{member}
 use Rattle.format.specs.Lookup.{some, position, at, gathered, RegisterEntry, entriesOf, registerEntries, registerNamed, NodeEntry, nodeEntriesOf, nodeEntries, nodeNamed, registerPosition, nodePosition}
 use Rattle.format.specs.Rules.{Every, Distinct, NamesUnique}
@@ -45,6 +45,18 @@ pub inside-at : {A : Type 0} (i : ℕ) (xs : List A) {e : A} → at i xs ≡ e �
 inside-at i [] q = at-nothing i q
 inside-at zero (x ∷ xs) q = omega arith
 inside-at (suc i) (x ∷ xs) q = let h : i < length xs = inside-at i xs (sym (at-next i x xs) ∙ q) in omega arith
+
+-- What stands at a position, or nothing.
+
+pub at-empty : {A : Type 0} (i : ℕ) → _≡_ {A = List A} (at i []) []
+unfolding at
+at-empty zero = refl
+at-empty (suc i) = refl
+
+pub at-most : {A : Type 0} (i : ℕ) (xs : List A) → (at i xs ≡ []) ⊎ ((x : A) × (at i xs ≡ x ∷ []))
+at-most i [] = inl (at-empty i)
+at-most zero (x ∷ xs) = inr (x, at-first x xs)
+at-most (suc i) (x ∷ xs) = ⊎-elim (λ e. inl (at-next i x xs ∙ e)) (λ r. inr (r .0, at-next i x xs ∙ r .1)) (at-most i xs)
 
 -- What passes a test is found at its position.
 pub position-at : {A : Type 0} (test : A → Bool) (xs : List A) → some test xs ≡ true
@@ -206,3 +218,22 @@ module _ (c : Chip) (u : NamesUnique c) where
       (all-apart (λ r. r .id) (λ r. r .instances) (λ x. x .number) (λ r x. record { id = r .id; type = r .type; instance = x }) (λ e. e .id)
       (λ e. e .instance .number) (λ r x. refl) (λ r x. refl) (c .nodes) (u .nodes) (u .nodeInstances))
       i id n q t
+
+-- Something passes exactly where the position is inside the list.
+
+ltb-suc : (a b : ℕ) → ltb a b ≡ ltb (suc a) (suc b)
+ltb-suc a b = ⊎-elim (λ e. e ∙ sym (lt-ltb (suc a) (suc b) (let h : a < b = ltb-true a b e in omega arith))) (λ e. e ∙ sym (le-ltb (suc a) (suc b) (let h : b ≤ a = ltb-false a b e in omega arith))) (either (ltb a b))
+
+module _ {E : Type 0} (test : E → Bool) where
+  pub some-position : (es : List E) → some test es ≡ ltb (position test es) (length es)
+  unfolding some position
+  some-position [] = refl
+  some-position (e ∷ es) = go (test e) (some-position es)
+    where
+      go : (t : Bool) → some test es ≡ ltb (position test es) (length es) → t || some test es ≡ ltb (cond t 0 (suc (position test es))) (suc (length es))
+      go true r = sym (lt-ltb 0 (suc (length es)) (omega arith))
+      go false r = r ∙ ltb-suc (position test es) (length es)
+
+  -- What passes stands somewhere.
+  pub some-out : (es : List E) → some test es ≡ true → (i : ℕ) × (e : E) × (at i es ≡ e ∷ []) × (test e ≡ true)
+  some-out es h = let r = position-at test es h in (position test es, r .0, r .1, r .2)

@@ -9,8 +9,8 @@ use lib.ListN.{length, length-append}
 use mathlib.Core.Logic.{⊎-elim}
 use borrow.Author.Tests.{ltb-true, lt-ltb, eqb-true}
 use Rattle.numbers.proofs.Bools.{or-cases}
-use Rattle.numbers.specs.BigEndian.{bytesOf}
-use Rattle.numbers.proofs.BigEndianLaws.{Bytes, length-bytes}
+use Rattle.numbers.specs.BigEndian.{bytesOf, Bytes}
+use Rattle.numbers.proofs.BigEndianLaws.{length-bytes}
 use Rattle.format.specs.Limits.{registerLimit, regs}
 use Rattle.format.specs.Parsed.{done}
 use Rattle.format.specs.Fields.{countAt, knownType, typeAt, addressSize, knownFlags, flagsAt, fresh}

@@ -8,9 +8,9 @@ use lib.Dec.{eqb}
 use lib.ListN.{length, take, drop, length-append, length-take, length-drop}
 use lib.Seq.{take-add, drop-drop, take-at, drop-at}
 use borrow.Author.Tests.{leb-true, eqb-true, eq-eqb, ltb-true, lt-ltb}
-use Rattle.numbers.specs.BigEndian.{bigEndian, bytesOf}
+use Rattle.numbers.specs.BigEndian.{bigEndian, bytesOf, Bytes}
 use Rattle.numbers.specs.Field.{present, field}
-use Rattle.numbers.proofs.BigEndianLaws.{Bytes, bytes-take, bytes-drop, length-bytes, read-written, written-read}
+use Rattle.numbers.proofs.BigEndianLaws.{bytes-take, bytes-drop, length-bytes, read-written, written-read}
 use Rattle.numbers.proofs.FieldLaws.{present-yes, field-lt}
 use Rattle.numbers.proofs.Bools.{clash, and-left, and-right, and-both}
 use Rattle.format.specs.Parsed.{Parsed, done, andThen, rowAt}

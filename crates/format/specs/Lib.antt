@@ -9,6 +9,7 @@ pub mod RegisterLayout
 pub mod NodeLayout
 pub mod FileLayout
 pub mod Lookup
+pub mod Finding
 pub mod References
 pub mod Cycles
 pub mod Verdict

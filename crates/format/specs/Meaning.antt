@@ -4,40 +4,18 @@ use mathlib.Core.Bool.{true, false}
 use Rattle.numbers.specs.Bits.{Bits, bitOf, wordOf, notBits, andBits, orBits, leftBits, rightBits}
 use Rattle.format.specs.Tree.{Expr, Exprs, reading, constant, all, any, inverse, left, right, none, more}
 
--- `env` gives the word of a register instance by ID and number.
-unfoldable mutual
-  pub bitsOf : ℕ → (ℕ → ℕ → ℕ) → Expr → Bits
-  bitsOf w env (reading p id number) = bitOf w (env id number)
-  bitsOf w env (constant v) = bitOf w v
-  bitsOf w env (all es) = everyBit w env es
-  bitsOf w env (any es) = someBit w env es
-  bitsOf w env (inverse e) = notBits (bitsOf w env e)
-  bitsOf w env (left k e) = leftBits w k (bitsOf w env e)
-  bitsOf w env (right k e) = rightBits k (bitsOf w env e)
-
-  -- A bit is set where every operand has it.
-  pub everyBit : ℕ → (ℕ → ℕ → ℕ) → Exprs → Bits
-  everyBit w env none = λ i. true
-  everyBit w env (more e es) = andBits (bitsOf w env e) (everyBit w env es)
-
-  -- A bit is set where some operand has it.
-  pub someBit : ℕ → (ℕ → ℕ → ℕ) → Exprs → Bits
-  someBit w env none = λ i. false
-  someBit w env (more e es) = orBits (bitsOf w env e) (someBit w env es)
-
--- The word with these bits.
-unfoldable pub valueOf : ℕ → (ℕ → ℕ → ℕ) → Expr → ℕ
-valueOf w env e = wordOf w (bitsOf w env e)
-
--- The same with the levels left: "each inner reading uses up one level". An expression that no level is left for has no bit; none that the layout accepts is one.
+-- AND: a bit is set where every operand has it.
 unfoldable pub everyOperand : (Expr → Bits) → Exprs → Bits
 everyOperand bits none = λ i. true
 everyOperand bits (more e es) = andBits (bits e) (everyOperand bits es)
 
+-- OR: a bit is set where some operand has it.
 unfoldable pub someOperand : (Expr → Bits) → Exprs → Bits
 someOperand bits none = λ i. false
 someOperand bits (more e es) = orBits (bits e) (someOperand bits es)
 
+-- The bits of an expression with so many levels left: "each inner reading uses up one level". `env` gives the word of a register instance by ID and number.
+-- An expression that no level is left for has no bit; none that the layout accepts is one.
 unfoldable pub bitsWithin : ℕ → ℕ → (ℕ → ℕ → ℕ) → Expr → Bits
 bitsWithin zero w env e = λ i. false
 bitsWithin (suc k) w env (reading p id number) = bitOf w (env id number)
@@ -48,5 +26,6 @@ bitsWithin (suc k) w env (inverse e) = notBits (bitsWithin k w env e)
 bitsWithin (suc k) w env (left n e) = leftBits w n (bitsWithin k w env e)
 bitsWithin (suc k) w env (right n e) = rightBits n (bitsWithin k w env e)
 
+-- The word with these bits.
 unfoldable pub valueWithin : ℕ → ℕ → (ℕ → ℕ → ℕ) → Expr → ℕ
 valueWithin k w env e = wordOf w (bitsWithin k w env e)

@@ -7,7 +7,7 @@ use Rattle.format.specs.Limits.{levels}
 use Rattle.format.specs.Refusals.{CheckValues, acceptedWith, refusedWith}
 use Rattle.format.specs.Parsed.{done, making}
 use Rattle.format.specs.ExpressionLayout.{exprAt}
-use Rattle.format.specs.Meaning.{valueOf}
+use Rattle.format.specs.Meaning.{valueWithin}
 use Rattle.format.specs.Verdict.{check}
 
 -- "B1, 60 bytes".
@@ -29,7 +29,7 @@ pub data Row : Type 0 where
 
 abbrev pub Holds : Row → Type 0
 Holds (file s v) = check s ≡ v
-Holds (word s v) = making (valueOf 64 (λ id number. 0)) (exprAt s levels 0) ≡ done v (length s)
+Holds (word s v) = making (valueWithin levels 64 (λ id number. 0)) (exprAt s levels 0) ≡ done v (length s)
 
 abbrev pub AllHold : List Row → Type 0
 AllHold [] = Unit {0}

@@ -25,10 +25,13 @@ verdict s =
     require (leb (length s) fileLimit) 1 0 λ _. andThen (fileAt s true 0) λ c end. require (leb (length s) end) 11 end λ _.
     judged (referenceFaults c ++ cycleFaults c) c end
 
--- The checker's answer: "model/level and the counts of registers, register instances, nodes, node instances and roots".
+-- The summary of a tree: "model/level and the counts of registers, register instances, nodes, node instances and roots".
+abbrev pub countsOf : Chip → CheckValues
+countsOf c = acceptedWith (c .model) (length (c .registers)) (length (registerEntries c)) (length (c .nodes)) (length (nodeEntries c)) (length (c .roots))
+
+-- The checker's answer.
 unfoldable pub checkOf : Parsed Chip → CheckValues
-checkOf (done c end) =
-    acceptedWith (c .model) (length (c .registers)) (length (registerEntries c)) (length (c .nodes)) (length (nodeEntries c)) (length (c .roots))
+checkOf (done c end) = countsOf c
 checkOf (refused n p) = refusedWith n p
 
 unfoldable pub check : List ℕ → CheckValues

@@ -20,7 +20,7 @@ pub const NODE: [u8; 4] = *b"NODE";
 
 pub const ROOT: [u8; 4] = *b"ROOT";
 
-// Why an input is refused: a case for each number of the refusal table, in its order.
+// Why an input is refused: a case for each number of the refusal table, in its order; and the last, a table that a caller lent for a file and that is too short for it.
 pub enum Kind {
     FileTooLong,
     FieldCut,
@@ -41,6 +41,7 @@ pub enum Kind {
     ReadingsUnfit,
     RegisterUnread,
     NoRoom,
+    TableTooShort,
 }
 
 // A refusal: why, and where.
@@ -71,7 +72,7 @@ pub enum Address {
     Refused(Refusal),
 }
 
-// The number of the refusal table.
+// The number of a refusal.
 pub fn number(k: Kind) -> u8
     ensures { λ r. ⌜ r ≡ numberOf k ⌝ }
 {
@@ -95,5 +96,6 @@ pub fn number(k: Kind) -> u8
         Kind::ReadingsUnfit => 17,
         Kind::RegisterUnread => 18,
         Kind::NoRoom => 19,
+        Kind::TableTooShort => 43,
     }
 }

@@ -1,11 +1,15 @@
--- The laws of `any` and `count`.
-use mathlib.Core.Path.{_≡_, refl, sym, _∙_, subst}
+-- The laws of `any`, `count` and `below`.
+use mathlib.Core.Path.{_≡_, refl, sym, _∙_, ap, subst}
 use mathlib.Core.Bool.{Bool, true, false}
 use mathlib.Core.Logic.{_⊎_, inl, inr, ⊎-elim}
 use Prim.Native.Nat.{ℕ, zero, suc, _+_, _≤_, _<_}
+use mathlib.Core.List.{[], _∷_, _++_, map, map-append}
 use native.Mathlib.Omega.{arith}
+use lib.ListN.{length, getD, length-map, length-append, List·getD-append}
+use lib.Seq.{getD-append-add}
 use Rattle.numbers.proofs.Bools.{either, clash, or-left, or-right, or-cases, same?}
 use Rattle.graph.specs.Below.{any, count}
+use Rattle.graph.specs.Chains.{below}
 
 pub any-in : (n : ℕ) (p : ℕ → Bool) (i : ℕ) → i < n → p i ≡ true → any n p ≡ true
 unfolding any
@@ -104,3 +108,25 @@ within? p q (suc n) = go (within? p q n)
         ⊎-elim (λ a. inl (more f (λ _. a)))
         (λ a. ⊎-elim (λ b. inr (n, omega arith, a, b)) (λ b. inl (more f (λ y. clash y b))) (either (q n)))
         (either (p n))
+
+-- The numbers below n.
+
+pub below-length : (n : ℕ) → length (below n) ≡ n
+unfolding below
+below-length zero = refl
+below-length (suc n) = let a = length-append (below n) (n ∷ []) in let b = below-length n in omega arith
+
+pub below-at : (f : ℕ → ℕ) (n b : ℕ) → b < n → getD (map f (below n)) b 0 ≡ f b
+unfolding below
+below-at f zero b h = absurd (omega arith)
+below-at f (suc n) b h =
+    let l : length (map f (below n)) ≡ n = length-map (below n) f ∙ below-length n in
+    ap (λ t. getD t b 0) (map-append f (below n) (n ∷ []))
+    ∙ ⊎-elim
+    (λ d.
+    let e : b ≡ length (map f (below n)) + 0 = omega arith in
+    ap (λ k. getD (map f (below n) ++ (f n ∷ [])) k 0) e ∙ getD-append-add (map f (below n)) (f n ∷ []) 0 0 ∙ ap f (sym d))
+    (λ d.
+    let k : b < n = omega arith in
+    List·getD-append (map f (below n)) (f n ∷ []) 0 b (omega (arith, l)) ∙ below-at f n b k)
+    (same? b n)

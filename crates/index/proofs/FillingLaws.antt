@@ -87,12 +87,6 @@ module _ {A : Type 0} (p : List A → ℕ → Parsed A) (rows : A → List Row) 
         let d = row-nothing p left (r .0) place h (r .3) in
         (d .1, ap (λ z. filled t k (gathered rows z)) (d .0) ∙ r .4)
 
--- One row for each element.
-pub gathered-each : {A B : Type 0} (f : A → B) (xs : List A) → gathered (λ x. f x ∷ []) xs ≡ map f xs
-unfolding gathered
-gathered-each f [] = refl
-gathered-each f (x ∷ xs) = ap (λ r. f x ∷ r) (gathered-each f xs)
-
 -- The row of an instance that was read.
 pub instance-put : (t : Rows) (j id code number place : ℕ) {i : Instance} {m x : ℕ} {u : Rows} → i ≡ instanceOf number place m
     → x ≡ keyOf id (i .number) → u ≡ putRow t j (record { key = x; kind = code; place = i .place })

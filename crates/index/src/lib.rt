@@ -31,7 +31,9 @@ pub fn put_row(
     kind: u64,
     place: u64,
 )
-    ensures { λ r. ⌜ _≡_ {A = Rows} (record { keys = now (keys .exit); kinds = now (kinds .exit); places = now (places .exit) }) (putRow (record { keys = now (keys .entry); kinds = now (kinds .entry); places = now (places .entry) }) k (record { key = key; kind = kind; place = place })) ⌝ }
+    ensures { λ r. ⌜ _≡_ {A = Rows}
+        (record { keys = now (keys .exit); kinds = now (kinds .exit); places = now (places .exit) })
+        (putRow (record { keys = now (keys .entry); kinds = now (kinds .entry); places = now (places .entry) }) k (record { key = key; kind = kind; place = place })) ⌝ }
 {
     tables::put(keys, k, key);
     tables::put(kinds, k, kind);

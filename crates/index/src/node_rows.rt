@@ -24,7 +24,9 @@ ghost use Rattle.index.specs.Rows.{Rows, filled, nodeRow, rowOf, nodeHea
 
 // A node instance that was read before.
 fn instance_at(s: &[u8], at: usize) -> Instance
-    ensures { λ r. ⌜ ((total : ℕ) (before : List NodeInstance) (i : NodeInstance) (m : ℕ) → nodeInstanceAt (now (s .entry)) true total before at ≡ done i m → r ≡ instanceOf (i .number) (i .place) m) ⌝ }
+    ensures { λ r. ⌜ ((total : ℕ) (before : List NodeInstance) (i : NodeInstance) (m : ℕ)
+        → nodeInstanceAt (now (s .entry)) true total before at ≡ done i m
+        → r ≡ instanceOf (i .number) (i .place) m) ⌝ }
 {
     let none = [0u8; 1];
     let i = node_instance_at(s, at, 0, &none);
@@ -55,7 +57,11 @@ fn fill_instances(
     places: &mut [u64],
 ) -> usize
     requires { ⌜ k < 256 ⌝ }
-    ensures { λ r. ⌜ ((total : ℕ) (is : List NodeInstance) (m : ℕ) → rowAt (nodeInstanceAt (now (s .entry)) true total) count [] at ≡ done is m → (r ≡ m) × _≡_ {A = Rows} (record { keys = now (keys .exit); kinds = now (kinds .exit); places = now (places .exit) }) (filled (record { keys = now (keys .entry); kinds = now (kinds .entry); places = now (places .entry) }) k (map (λ i. rowOf id code (i .number) (i .place)) is))) ⌝ }
+    ensures { λ r. ⌜ ((total : ℕ) (is : List NodeInstance) (m : ℕ)
+        → rowAt (nodeInstanceAt (now (s .entry)) true total) count [] at ≡ done is m
+        → (r ≡ m) × _≡_ {A = Rows}
+        (record { keys = now (keys .exit); kinds = now (kinds .exit); places = now (places .exit) })
+        (filled (record { keys = now (keys .entry); kinds = now (kinds .entry); places = now (places .entry) }) k (map (λ i. rowOf id code (i .number) (i .place)) is))) ⌝ }
 {
     let mut left = count;
     let mut place = at;
@@ -104,7 +110,11 @@ fn head_at(s: &[u8], at: usize) -> Head
 
 // So many nodes that were read before, from the front of the tables on. It reads each once.
 fn fill_rows(s: &[u8], at: usize, n: u64, keys: &mut [u64], kinds: &mut [u64], places: &mut [u64])
-    ensures { λ r. ⌜ ((ns : List Node) (m : ℕ) → rowAt (nodeAt (now (s .entry)) true) n [] at ≡ done ns m → _≡_ {A = Rows} (record { keys = now (keys .exit); kinds = now (kinds .exit); places = now (places .exit) }) (filled (record { keys = now (keys .entry); kinds = now (kinds .entry); places = now (places .entry) }) 0 (map nodeRow (gathered nodeEntriesOf ns)))) ⌝ }
+    ensures { λ r. ⌜ ((ns : List Node) (m : ℕ)
+        → rowAt (nodeAt (now (s .entry)) true) n [] at ≡ done ns m
+        → _≡_ {A = Rows}
+        (record { keys = now (keys .exit); kinds = now (kinds .exit); places = now (places .exit) })
+        (filled (record { keys = now (keys .entry); kinds = now (kinds .entry); places = now (places .entry) }) 0 (map nodeRow (gathered nodeEntriesOf ns)))) ⌝ }
 {
     let mut left = n;
     let mut place = at;
@@ -122,7 +132,11 @@ fn fill_rows(s: &[u8], at: usize, n: u64, keys: &mut [u64], kinds: &mut [u64], p
 
 // The rows of all node instances of a nodes section that was read before. It reads the section once.
 pub fn fill_nodes(s: &[u8], at: usize, keys: &mut [u64], kinds: &mut [u64], places: &mut [u64])
-    ensures { λ r. ⌜ ((ns : List Node) (m : ℕ) → nodesAt (now (s .entry)) true at ≡ done ns m → _≡_ {A = Rows} (record { keys = now (keys .exit); kinds = now (kinds .exit); places = now (places .exit) }) (filled (record { keys = now (keys .entry); kinds = now (kinds .entry); places = now (places .entry) }) 0 (map nodeRow (gathered nodeEntriesOf ns)))) ⌝ }
+    ensures { λ r. ⌜ ((ns : List Node) (m : ℕ)
+        → nodesAt (now (s .entry)) true at ≡ done ns m
+        → _≡_ {A = Rows}
+        (record { keys = now (keys .exit); kinds = now (kinds .exit); places = now (places .exit) })
+        (filled (record { keys = now (keys .entry); kinds = now (kinds .entry); places = now (places .entry) }) 0 (map nodeRow (gathered nodeEntriesOf ns)))) ⌝ }
 {
     let k = keyword_at(s, at, &format::NODE);
     match k {

@@ -25,7 +25,9 @@ ghost use Rattle.index.specs.Rows.{Rows, filled, registerRow, rowOf, hea
 
 // A register instance that was read before.
 fn instance_at(s: &[u8], at: usize, kind: u8) -> Instance
-    ensures { λ r. ⌜ ((total : ℕ) (before : List RegisterInstance) (i : RegisterInstance) (m : ℕ) → registerInstanceAt (now (s .entry)) true total kind before at ≡ done i m → r ≡ instanceOf (i .number) (i .place) m) ⌝ }
+    ensures { λ r. ⌜ ((total : ℕ) (before : List RegisterInstance) (i : RegisterInstance) (m : ℕ)
+        → registerInstanceAt (now (s .entry)) true total kind before at ≡ done i m
+        → r ≡ instanceOf (i .number) (i .place) m) ⌝ }
 {
     let b = byte_at(s, at);
     match b {
@@ -66,7 +68,11 @@ fn fill_instances(
     places: &mut [u64],
 ) -> usize
     requires { ⌜ k < 1024 ⌝ }
-    ensures { λ r. ⌜ ((total : ℕ) (is : List RegisterInstance) (m : ℕ) → rowAt (registerInstanceAt (now (s .entry)) true total kind) count [] at ≡ done is m → (r ≡ m) × _≡_ {A = Rows} (record { keys = now (keys .exit); kinds = now (kinds .exit); places = now (places .exit) }) (filled (record { keys = now (keys .entry); kinds = now (kinds .entry); places = now (places .entry) }) k (map (λ i. rowOf id code (i .number) (i .place)) is))) ⌝ }
+    ensures { λ r. ⌜ ((total : ℕ) (is : List RegisterInstance) (m : ℕ)
+        → rowAt (registerInstanceAt (now (s .entry)) true total kind) count [] at ≡ done is m
+        → (r ≡ m) × _≡_ {A = Rows}
+        (record { keys = now (keys .exit); kinds = now (kinds .exit); places = now (places .exit) })
+        (filled (record { keys = now (keys .entry); kinds = now (kinds .entry); places = now (places .entry) }) k (map (λ i. rowOf id code (i .number) (i .place)) is))) ⌝ }
 {
     let mut left = count;
     let mut place = at;
@@ -115,7 +121,11 @@ fn head_at(s: &[u8], at: usize) -> Head
 
 // So many registers that were read before, from the front of the tables on. It reads each once.
 fn fill_rows(s: &[u8], at: usize, n: u64, keys: &mut [u64], kinds: &mut [u64], places: &mut [u64])
-    ensures { λ r. ⌜ ((rs : List Register) (m : ℕ) → rowAt (registerAt (now (s .entry)) true) n [] at ≡ done rs m → _≡_ {A = Rows} (record { keys = now (keys .exit); kinds = now (kinds .exit); places = now (places .exit) }) (filled (record { keys = now (keys .entry); kinds = now (kinds .entry); places = now (places .entry) }) 0 (map registerRow (gathered entriesOf rs)))) ⌝ }
+    ensures { λ r. ⌜ ((rs : List Register) (m : ℕ)
+        → rowAt (registerAt (now (s .entry)) true) n [] at ≡ done rs m
+        → _≡_ {A = Rows}
+        (record { keys = now (keys .exit); kinds = now (kinds .exit); places = now (places .exit) })
+        (filled (record { keys = now (keys .entry); kinds = now (kinds .entry); places = now (places .entry) }) 0 (map registerRow (gathered entriesOf rs)))) ⌝ }
 {
     let mut left = n;
     let mut place = at;
@@ -144,7 +154,11 @@ fn fill_rows(s: &[u8], at: usize, n: u64, keys: &mut [u64], kinds: &mut [u64], p
 
 // The rows of all register instances of a registers section that was read before. It reads the section once.
 pub fn fill_registers(s: &[u8], at: usize, keys: &mut [u64], kinds: &mut [u64], places: &mut [u64])
-    ensures { λ r. ⌜ ((rs : List Register) (m : ℕ) → registersAt (now (s .entry)) true at ≡ done rs m → _≡_ {A = Rows} (record { keys = now (keys .exit); kinds = now (kinds .exit); places = now (places .exit) }) (filled (record { keys = now (keys .entry); kinds = now (kinds .entry); places = now (places .entry) }) 0 (map registerRow (gathered entriesOf rs)))) ⌝ }
+    ensures { λ r. ⌜ ((rs : List Register) (m : ℕ)
+        → registersAt (now (s .entry)) true at ≡ done rs m
+        → _≡_ {A = Rows}
+        (record { keys = now (keys .exit); kinds = now (kinds .exit); places = now (places .exit) })
+        (filled (record { keys = now (keys .entry); kinds = now (kinds .entry); places = now (places .entry) }) 0 (map registerRow (gathered entriesOf rs)))) ⌝ }
 {
     let k = keyword_at(s, at, &format::REGS);
     match k {

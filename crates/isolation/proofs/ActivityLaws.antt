@@ -2,32 +2,32 @@
 use Prim.Native.Nat.{ℕ, zero, suc, _+_, _-_, _≤_, _<_}
 use mathlib.Core.Bool.{Bool, true, false, not, _||_}
 use mathlib.Core.List.{List, [], _∷_, map}
-use mathlib.Core.Logic.{_⊎_, inl, inr, ⊎-elim}
+use mathlib.Core.Logic.{_⊎_, ⊎-elim}
 use mathlib.Core.Path.{_≡_, refl, sym, _∙_, ap, subst}
 use native.Mathlib.Numerals.{add-one}
 use native.Mathlib.Omega.{arith}
-use lib.Dec.{ltb, eqb}
+use lib.Dec.{ltb}
 use lib.ListN.{length, getD, set}
 use borrow.Author.Tests.{eq-eqb, ne-eqb, le-ltb, lt-ltb}
-use Rattle.numbers.proofs.Bools.{either, clash}
+use Rattle.numbers.proofs.Bools.{clash}
 use Rattle.format.specs.ExpressionLayout.{exprAt}
 use Rattle.format.specs.Limits.{levels}
-use Rattle.format.specs.Lookup.{some, position, at, gathered, NodeEntry}
+use Rattle.format.specs.Lookup.{some, at, gathered, NodeEntry}
 use Rattle.format.specs.Parsed.{done}
 use Rattle.format.specs.References.{Fault}
 use Rattle.format.specs.Rules.{Every}
-use Rattle.format.specs.Tree.{Expr, Rule, NodeInstance}
+use Rattle.format.specs.Tree.{Expr, Rule}
 use Rattle.format.proofs.FaultsLaws.{below?}
 use Rattle.format.proofs.GatheredLaws.{gathered-one}
-use Rattle.format.proofs.PositionsLaws.{at-first, at-next}
 use Rattle.tables.specs.Tables.{written}
-use Rattle.index.proofs.FillingLaws.{gathered-each}
-use Rattle.links.specs.Links.{rulePlace}
-use Rattle.links.proofs.WritingLaws.{Writing, writing-begin, writing-next, writing-end, one-written}
-use Rattle.rules.specs.declared.Value.{Value}
-use Rattle.rules.specs.Value.{faulty, firstPlace, valued}
+use Rattle.format.proofs.GatheredLaws.{gathered-each}
+use Rattle.reader.specs.Prepared.{expressionPlace}
+use Rattle.tables.proofs.WritingLaws.{Writing, writing-begin, writing-next, writing-end, one-written}
+use Rattle.evaluation.specs.declared.Value.{Value}
+use Rattle.evaluation.specs.Value.{faulty, firstPlace, valued}
 use Rattle.isolation.specs.declared.Activity.{Activity}
-use Rattle.isolation.specs.ChipGraph.{firstOf, ruleFor}
+use Rattle.format.specs.Finding.{ruleFor}
+use Rattle.format.proofs.FindingLaws.{rule-cases}
 use Rattle.listing.specs.Rows.{isDone}
 use Rattle.isolation.specs.Activity.{unreadBy, exprWord, ruleWord, activeWord, unreadPlace, activityOf, inactive, RuleAgain, RulesAgain, unreadAt, firstUnread, fitting}
 
@@ -40,8 +40,8 @@ faultless-place [] e = refl
 faultless-place (f ∷ fs) e = clash refl e
 
 module _ (s : List ℕ) (at : ℕ) (keys words read : List ℕ) {v : Value}
-    (gives : (e : Expr) (m : ℕ) → exprAt s 16 at ≡ done e m → v ≡ valued keys words read e m) (e : Expr) (m : ℕ) (q : exprAt s levels at ≡ done e m) where
-  value-is : v ≡ valued keys words read e m
+    (gives : (e : Expr) (m : ℕ) → exprAt s 16 at ≡ done e m → v ≡ valued 16 keys words read e m) (e : Expr) (m : ℕ) (q : exprAt s levels at ≡ done e m) where
+  value-is : v ≡ valued 16 keys words read e m
   unfolding levels
   value-is = gives e m q
 
@@ -53,48 +53,21 @@ module _ (s : List ℕ) (at : ℕ) (keys words read : List ℕ) {v : Value}
       rw (f, p)
 
   pub unread-no : v .unread ≡ false → _≡_ {A = Activity} (record { word = v .word; unread = 0 }) (activityOf keys words read e)
-  unfolding valued activityOf exprWord unreadBy
+  unfolding levels valued activityOf exprWord unreadBy
   unread-no h =
       let f : faulty (unreadBy keys read e) ≡ false = sym (ap (λ x. x .unread) value-is) ∙ h in
-      let w : v .word ≡ valued keys words read e m .word = ap (λ x. x .word) value-is in
+      let w : v .word ≡ valued 16 keys words read e m .word = ap (λ x. x .word) value-is in
       rw (f, faultless-place (unreadBy keys read e) f, w)
 
 -- The rule of a node instance, and its place
 
-rule-on : (attention : ℕ) (r : Rule) (rs : List Rule) → eqb (r .attention) attention ≡ false
-    → (rulePlace attention (r ∷ rs) ≡ rulePlace attention rs)
-    × (firstOf (λ x. eqb (x .attention) attention) (r ∷ rs) ≡ firstOf (λ x. eqb (x .attention) attention) rs)
-unfolding rulePlace firstOf position
-rule-on attention r rs e = (rw e, rw e (at-next _ r rs))
+place-none : (rs : List Rule) → rs ≡ [] → expressionPlace rs ≡ 0
+unfolding expressionPlace
+place-none rs e = rw e
 
-rule-here : (attention : ℕ) (r : Rule) (rs : List Rule) → eqb (r .attention) attention ≡ true
-    → (rulePlace attention (r ∷ rs) ≡ r .place) × (firstOf (λ x. eqb (x .attention) attention) (r ∷ rs) ≡ r ∷ [])
-unfolding rulePlace firstOf position
-rule-here attention r rs e = (rw e, rw e (at-first r rs))
-
-rule-none : (attention : ℕ) → (rulePlace attention [] ≡ 0) × (firstOf (λ (x : Rule). eqb (x .attention) attention) [] ≡ [])
-unfolding rulePlace firstOf position at
-rule-none attention = (refl, refl)
-
--- There is none, and the place is 0; or there is one, it is one of the rules, and the place is its place.
-rules-cases : (P : Rule → Type 0) (attention : ℕ) (rs : List Rule) → Every P rs
-    → ((rulePlace attention rs ≡ 0) × (firstOf (λ x. eqb (x .attention) attention) rs ≡ []))
-    ⊎ ((r : Rule) × P r × (rulePlace attention rs ≡ r .place) × (firstOf (λ x. eqb (x .attention) attention) rs ≡ r ∷ []))
-unfolding Every
-rules-cases P attention [] h = inl (rule-none attention)
-rules-cases P attention (r ∷ rs) h =
-    ⊎-elim
-    (λ e. let q = rule-here attention r rs e in inr (r, h .0, q .0, q .1))
-    (λ e.
-    let q = rule-on attention r rs e in
-    ⊎-elim (λ z. inl (q .0 ∙ z .0, q .1 ∙ z .1)) (λ z. inr (z .0, z .1, q .0 ∙ z .2, q .1 ∙ z .3)) (rules-cases P attention rs (h .1)))
-    (either (eqb (r .attention) attention))
-
-pub rule-cases : (P : Rule → Type 0) (attention : ℕ) (i : NodeInstance) → Every P (i .rules)
-    → ((rulePlace attention (i .rules) ≡ 0) × (ruleFor attention i ≡ []))
-    ⊎ ((r : Rule) × P r × (rulePlace attention (i .rules) ≡ r .place) × (ruleFor attention i ≡ r ∷ []))
-unfolding ruleFor
-rule-cases P attention i h = rules-cases P attention (i .rules) h
+place-one : (rs : List Rule) (r : Rule) → rs ≡ r ∷ [] → expressionPlace rs ≡ r .place
+unfolding expressionPlace
+place-one rs r e = rw e
 
 module _ (keys words read : List ℕ) (attention : ℕ) (e : NodeEntry) where
   pub no-rule : ruleFor attention (e .instance) ≡ [] → (activeWord keys words read attention e ≡ 0) × (unreadPlace keys read attention e ≡ 0)
@@ -115,27 +88,27 @@ module _ (keys words read : List ℕ) (attention : ℕ) (e : NodeEntry) where
   place-of x d = ap (λ y. y .unread) d
 
   -- What the code finds at the place of the rule.
-  pub entry-active : (s : List ℕ) → RulesAgain s e → {p : ℕ} → p ≡ rulePlace attention (e .instance .rules) → {a : Activity} → (p ≡ 0 → a ≡ inactive)
+  pub entry-active : (s : List ℕ) → RulesAgain s e → {p : ℕ} → p ≡ expressionPlace (ruleFor attention (e .instance)) → {a : Activity} → (p ≡ 0 → a ≡ inactive)
       → ((x : Expr) (m : ℕ) → (p ≡ 0 → ⊥) → exprAt s levels p ≡ done x m → a ≡ activityOf keys words read x)
       → (a .word ≡ activeWord keys words read attention e) × (a .unread ≡ unreadPlace keys read attention e)
   entry-active s again {p} place {a} none some =
       ⊎-elim
       (λ z.
-      let d = none (place ∙ z .0) in
-      let o = no-rule (z .1) in
+      let d = none (place ∙ place-none _ z) in
+      let o = no-rule z in
       (ap (λ x. x .word) d ∙ sym (o .0), ap (λ x. x .unread) d ∙ sym (o .1)))
       (λ z.
       let r = z .0 in
-      let w : p ≡ r .place = place ∙ z .2 in
+      let w : p ≡ r .place = place ∙ place-one _ r (z .2) in
       let d = some (r .expression) (z .1 .next) (λ q. z .1 .placed (sym w ∙ q)) (rw w (z .1 .read)) in
-      let o = one-rule r (z .3) in
+      let o = one-rule r (z .2) in
       (word-of (r .expression) d ∙ sym (o .0), place-of (r .expression) d ∙ sym (o .1)))
       (rule-cases (RuleAgain s) attention (e .instance) again)
 
 -- The tables hold what the node instances before i give.
 pub record Filling (s rules keys words read a₀ a u₀ u : List ℕ) (i : ℕ) : Type 0 where
-  pub active : (attention : ℕ) → Writing (RulesAgain s) (λ e. rulePlace attention (e .instance .rules)) rules (λ e. activeWord keys words read attention e ∷ []) a₀ a i i
-  pub unread : (attention : ℕ) → Writing (RulesAgain s) (λ e. rulePlace attention (e .instance .rules)) rules (λ e. unreadPlace keys read attention e ∷ []) u₀ u i i
+  pub active : (attention : ℕ) → Writing (RulesAgain s) (λ e. expressionPlace (ruleFor attention (e .instance))) rules (λ e. activeWord keys words read attention e ∷ []) a₀ a i i
+  pub unread : (attention : ℕ) → Writing (RulesAgain s) (λ e. expressionPlace (ruleFor attention (e .instance))) rules (λ e. unreadPlace keys read attention e ∷ []) u₀ u i i
 
 module _ (s rules keys words read : List ℕ) where
   pub filling-begin : (a u : List ℕ) → Filling s rules keys words read a a u u 0
@@ -151,7 +124,7 @@ module _ (s rules keys words read : List ℕ) where
           unread = λ attention. writing-next _ _ _ _ (f .unread attention) h (λ e again w. one-written u i q (entry-active keys words read attention e s again w none some .1));
         }
 
-    module _ (h : length rules ≤ i) (attention : ℕ) (es : List NodeEntry) (again : Every (RulesAgain s) es) (e : rules ≡ map (λ e. rulePlace attention (e .instance .rules)) es) where
+    module _ (h : length rules ≤ i) (attention : ℕ) (es : List NodeEntry) (again : Every (RulesAgain s) es) (e : rules ≡ map (λ e. expressionPlace (ruleFor attention (e .instance))) es) where
       pub filling-active : a ≡ written a₀ 0 (map (activeWord keys words read attention) es)
       filling-active = writing-end _ _ _ _ (f .active attention) h es again e ∙ ap (written a₀ 0) (gathered-each (activeWord keys words read attention) es)
 

@@ -1,16 +1,14 @@
 -- The answer of isolation in the code's own terms: what the tables, the walk and the list say of an accepted file decides it.
-use Prim.Native.Nat.{ℕ, _*_, _/_, _^_, _≤_, _<_}
+use Prim.Native.Nat.{ℕ, _*_, _^_, _≤_, _<_}
 use mathlib.Core.Bool.{Bool, true, false, cond}
 use mathlib.Core.List.{List, [], _∷_, _++_, map}
 use mathlib.Core.Path.{_≡_, refl, sym, _∙_, ap, subst}
 use native.Mathlib.Omega.{arith}
-use lib.Dec.{leb}
 use lib.ListN.{length, getD, take, drop, length-map, List·getD-append}
-use borrow.Author.Tests.{lt-ltb}
-use Rattle.numbers.proofs.BigEndianLaws.{Bytes}
+use Rattle.numbers.specs.BigEndian.{Bytes}
 use Rattle.graph.specs.Chains.{reachedCount}
 use Rattle.format.specs.Fields.{knownAttention}
-use Rattle.format.specs.Lookup.{at, gathered, NodeEntry, registerEntries, nodeEntries, nodePosition}
+use Rattle.format.specs.Lookup.{at, NodeEntry, registerEntries, nodeEntries, nodePosition}
 use Rattle.format.specs.Parsed.{done, refused}
 use Rattle.format.specs.Rules.{Meets}
 use Rattle.format.specs.Tree.{Root, Chip}
@@ -18,27 +16,26 @@ use Rattle.format.specs.Verdict.{verdict}
 use Rattle.format.proofs.Acceptance.{acceptance, read-to-end}
 use Rattle.format.proofs.PositionsLaws.{every-at, inside-at}
 use Rattle.tables.specs.Tables.{keyOf, written}
-use Rattle.tables.proofs.TablesLaws.{written-front}
+use Rattle.tables.proofs.TablesLaws.{written-front, written-take}
 use Rattle.walk.specs.Marks.{finished}
-use Rattle.walk.specs.TableGraph.{sizeOf, tableGraph}
-use Rattle.walk.proofs.Step.{length-tabulate}
+use Rattle.walk.specs.TableGraph.{tableSize, tableGraph}
+use Rattle.walk.proofs.WalkLaws.{steps-reached}
 use Rattle.tables.specs.Keys.{registerKeys, nodeKeys}
-use Rattle.links.specs.Links.{childRow}
+use Rattle.reader.specs.Prepared.{childColumn}
 use Rattle.tables.proofs.ColumnLaws.{column-at}
-use Rattle.references.proofs.TablesLaws.{nodes-fit}
-use Rattle.reader.proofs.FaultsLaws.{front}
+use Rattle.tables.proofs.KeysLaws.{nodes-fit}
 use Rattle.listing.specs.declared.Listing
 use Rattle.listing.specs.declared.Listing.{Listing}
-use Rattle.isolation.specs.ChipGraph.{rootFor, chipGraph}
+use Rattle.format.specs.Finding.{rootFor}
+use Rattle.isolation.specs.ChipGraph.{chipGraph}
 use Rattle.isolation.specs.Outcome as outcome
 use Rattle.isolation.specs.Outcome.{refusedOutcome, doneOutcome, reachedUnread, allRead, fromRoot, isolateIn, isolate}
 use Rattle.isolation.specs.Readings.{readingsFit}
 use Rattle.listing.specs.Records.{recordSize, listing, recordsOf}
-use Rattle.listing.specs.Rows.{keyId, keyNumber, rowsTo, rowsRecords, roomFor, listingOf, listAfter}
+use Rattle.listing.specs.Rows.{keyId, keyNumber, writtenWith, refusedWith, listingValues, hasRoom, roomFor, tableLinks, tableRecords, listAfter}
 use Rattle.isolation.specs.Activity.{activeWord, unreadPlace, firstUnread, fitting}
-use Rattle.isolation.proofs.ChipLaws.{first-out, root-inside}
+use Rattle.format.proofs.FindingLaws.{first-out, root-inside}
 use Rattle.isolation.proofs.GraphsLaws.{DoneReached, finished-done, rows-listing, rows-records-listing, listing-length}
-use Rattle.listing.proofs.WriteLaws.{room-is}
 use Rattle.isolation.proofs.TablesLaws.{entries-few, act-size, root-in-tables, tables-listing, tables-count}
 use Rattle.isolation.proofs.UnreadLaws.{unread-none, unread-some}
 
@@ -49,7 +46,7 @@ module _ {E : Type 0} (f : E → ℕ) (es : List E) (t₀ t : List ℕ) (room : 
   fits-in = rw (length-map es f) room
 
   pub column-front : (n : ℕ) → n ≡ length es → take n t ≡ map f es
-  column-front n e = ap (take n) t-is ∙ front t₀ (map f es) n (e ∙ sym (length-map es f)) fits-in
+  column-front n e = ap (take n) t-is ∙ written-take t₀ (map f es) n (e ∙ sym (length-map es f)) fits-in
 
   pub column-entry : (i : ℕ) (e : E) → at i es ≡ e ∷ [] → getD t i 0 ≡ f e
   column-entry i e q =
@@ -75,41 +72,25 @@ keys-tell c m nodes n i e q =
 
 -- The marks of a walk that has come to its end.
 module _ (act ch : List ℕ) (root : ℕ) (marks : List ℕ) (marks-are : marks ≡ finished (tableGraph act ch) root .marks) where
-  marks-length : length marks ≡ 256
-  unfolding finished
-  marks-length = ap length marks-are ∙ length-tabulate 256 _
-
   marks-done : root < tableGraph act ch .size → tableGraph act ch .size ≤ 256 → DoneReached (tableGraph act ch) root marks
   marks-done h l = subst (DoneReached (tableGraph act ch) root) (sym marks-are) (finished-done (tableGraph act ch) root h l)
 
-  steps-are : root < tableGraph act ch .size → finished (tableGraph act ch) root .steps ≡ reachedCount (tableGraph act ch) root
-  unfolding finished
-  steps-are h = rw (lt-ltb _ _ h)
-
 -- What is answered of the room.
-room-yes : (k bytes : ℕ) {count : ℕ} → roomFor k bytes ≡ Listing.Written count → (k ≡ count) × (leb k (bytes / recordSize) ≡ true)
+room-yes : (k bytes : ℕ) {count : ℕ} → listingValues (Listing.Written count) ≡ roomFor k bytes → (k ≡ count) × (hasRoom k bytes ≡ true)
 unfolding roomFor
-room-yes k bytes {count} e = go (leb k (bytes / recordSize)) e
+room-yes k bytes {count} e = go (hasRoom k bytes) e
   where
-    go : (t : Bool) → cond t (Listing.Written k) (Listing.NoRoom k) ≡ Listing.Written count → (k ≡ count) × (t ≡ true)
-    go true e = (let z : k ≡ count = cc in z, refl)
-    go false e = let z : _≡_ {A = ℕ} 0 1 = cc in absurd (omega arith)
+    go : (t : Bool) → writtenWith count ≡ cond t (writtenWith k) (refusedWith 19 k) → (k ≡ count) × (t ≡ true)
+    go true e = (sym (ap (λ v. v .records) e), refl)
+    go false e = let z : _≡_ {A = ℕ} 0 19 = ap (λ v. v .number) e in absurd (omega arith)
 
-room-no : (k bytes : ℕ) {count : ℕ} → roomFor k bytes ≡ Listing.NoRoom count → (k ≡ count) × (leb k (bytes / recordSize) ≡ false)
+room-no : (k bytes : ℕ) {count : ℕ} → listingValues (Listing.NoRoom count) ≡ roomFor k bytes → (k ≡ count) × (hasRoom k bytes ≡ false)
 unfolding roomFor
-room-no k bytes {count} e = go (leb k (bytes / recordSize)) e
+room-no k bytes {count} e = go (hasRoom k bytes) e
   where
-    go : (t : Bool) → cond t (Listing.Written k) (Listing.NoRoom k) ≡ Listing.NoRoom count → (k ≡ count) × (t ≡ false)
-    go true e = let z : _≡_ {A = ℕ} 0 1 = cc in absurd (omega arith)
-    go false e = (let z : k ≡ count = cc in z, refl)
-
-room-some : (k bytes : ℕ) → roomFor k bytes ≡ Listing.Unfit → ⊥
-unfolding roomFor
-room-some k bytes e = go (leb k (bytes / recordSize)) e
-  where
-    go : (t : Bool) → cond t (Listing.Written k) (Listing.NoRoom k) ≡ Listing.Unfit → ⊥
-    go true e = let z : _≡_ {A = ℕ} 0 1 = cc in absurd (omega arith)
-    go false e = let z : _≡_ {A = ℕ} 0 1 = cc in absurd (omega arith)
+    go : (t : Bool) → refusedWith 19 count ≡ cond t (writtenWith k) (refusedWith 19 k) → (k ≡ count) × (t ≡ false)
+    go true e = let z : _≡_ {A = ℕ} 19 0 = ap (λ v. v .number) e in absurd (omega arith)
+    go false e = (sym (ap (λ v. v .place) e), refl)
 
 -- The answer
 
@@ -143,7 +124,7 @@ module _ (file : List ℕ) (attention : ℕ) (words read list : List ℕ) where
       -- The root's position, the tables, and the marks after the walk.
       module _ (bytes : Bytes file) (fit : fitting m words read ≡ true) (root : ℕ) (root-is : root ≡ nodePosition c (t .id) (t .number)) (act ch rest : List ℕ)
           (act-is : act ≡ map (activeWord (registerKeys c) words read attention) (nodeEntries c))
-          (ch-is : ch ≡ gathered (λ e. childRow (nodeKeys c) (e .instance)) (nodeEntries c) ++ rest)
+          (ch-is : ch ≡ childColumn c ++ rest)
           (unread : List ℕ) (unread-is : (i : ℕ) (e : NodeEntry) → at i (nodeEntries c) ≡ e ∷ [] → getD unread i 0 ≡ unreadPlace (registerKeys c) read attention e)
           (marks : List ℕ) (marks-are : marks ≡ finished (tableGraph act ch) root .marks) (n : ℕ) (n-is : n ≡ length (nodeEntries c)) where
         whole : verdict file ≡ done c (length file)
@@ -169,7 +150,7 @@ module _ (file : List ℕ) (attention : ℕ) (words read list : List ℕ) where
         reached = marks-done act ch root marks marks-are inside-tables (omega (arith, size, entries-few c meets))
 
         isolate-is : isolate file attention words read list
-            ≡ allRead (reachedUnread c attention read (chipGraph c attention words read) root) list (outcome.written c attention (chipGraph c attention words read) root list)
+            ≡ allRead (reachedUnread c attention read (chipGraph c attention words read) root) list (outcome.listOutcome c attention (chipGraph c attention words read) root list)
         unfolding isolate isolateIn fromRoot
         isolate-is = rw (accepted, known, rooted, sym (fitting-is m m-is) ∙ fit, root-is)
 
@@ -179,52 +160,46 @@ module _ (file : List ℕ) (attention : ℕ) (words read list : List ℕ) where
             sym (isolate-is ∙ unread-some file bytes c whole attention words read act ch rest act-is ch-is root inside marks reached unread unread-is n n-is d e list _)
 
         -- Every register is read. The code's answer about the list decides.
-        module _ (valued : firstUnread marks unread n ≡ 0) (nodes : List ℕ) (nodes-are : nodes ≡ nodeKeys c) (l : Listing) (l-is : l ≡ listingOf nodes marks act ch (length list)) where
-          written-is : isolate file attention words read list ≡ outcome.written c attention (chipGraph c attention words read) root list
+        module _ (valued : firstUnread marks unread n ≡ 0) (nodes : List ℕ) (nodes-are : nodes ≡ nodeKeys c) (l : Listing) (l-is : listingValues l ≡ roomFor (length (tableLinks marks act ch)) (length list)) where
+          written-is : isolate file attention words read list ≡ outcome.listOutcome c attention (chipGraph c attention words read) root list
           unfolding allRead
           written-is =
               isolate-is
               ∙ rw (unread-none file bytes c whole attention words read act ch rest act-is ch-is root inside marks reached unread unread-is n n-is valued)
 
-          listing-is : rowsTo (tableGraph act ch) marks (sizeOf act) ≡ listing (chipGraph c attention words read) root
-          unfolding tableGraph
+          listing-is : tableLinks marks act ch ≡ listing (chipGraph c attention words read) root
+          unfolding tableGraph tableLinks
           listing-is = rows-listing (tableGraph act ch) root marks reached ∙ tables-listing c meets attention words read act ch rest act-is ch-is root inside
 
-          records-are : rowsRecords attention nodes (tableGraph act ch) marks (sizeOf act) ≡ recordsOf c attention (listing (chipGraph c attention words read) root)
+          records-are : tableRecords attention nodes marks act ch ≡ recordsOf c attention (listing (chipGraph c attention words read) root)
+          unfolding tableRecords
           records-are =
-              rows-records-listing (tableGraph act ch) root marks reached c attention nodes size (keys-tell c meets nodes nodes-are) (sizeOf act)
+              rows-records-listing (tableGraph act ch) root marks reached c attention nodes size (keys-tell c meets nodes nodes-are) (tableSize act)
               (act-size c meets attention words read act ch rest act-is ch-is)
               ∙ ap (recordsOf c attention) (tables-listing c meets attention words read act ch rest act-is ch-is root inside)
 
-          l-room : l ≡ roomFor (length (listing (chipGraph c attention words read) root)) (length list)
-          l-room =
-              let s = act-size c meets attention words read act ch rest act-is ch-is in
-              let k : length nodes ≡ length (nodeEntries c) = ap length nodes-are ∙ length-map (nodeEntries c) (λ e. keyOf (e .id) (e .instance .number)) in
-              l-is
-              ∙ room-is nodes marks act ch (sizeOf act) (length list) refl (omega (arith, s, entries-few c meets, marks-length act ch root marks marks-are)) (omega (arith, s, k))
-              (sym (ap length listing-is))
-
-          pub never-unfit : l ≡ Listing.Unfit → ⊥
-          never-unfit e = room-some _ _ (sym l-room ∙ e)
+          l-room : listingValues l ≡ roomFor (length (listing (chipGraph c attention words read) root)) (length list)
+          l-room = l-is ∙ ap (λ x. roomFor (length x) (length list)) listing-is
 
           -- 19
-          pub room-refused : {count : ℕ} → l ≡ Listing.NoRoom count → refusedOutcome 19 count list ≡ isolate file attention words read list
-          unfolding outcome.written
-          room-refused e =
-              let r = room-no _ _ (sym l-room ∙ e) in
-              sym (written-is ∙ rw (r .1, r .0))
+          pub room-refused : {count : ℕ} → l ≡ Listing.NoRoom count → {new : List ℕ} → new ≡ listAfter attention nodes marks act ch list
+              → refusedOutcome 19 count new ≡ isolate file attention words read list
+          unfolding outcome.listOutcome listAfter hasRoom
+          room-refused e {new} d =
+              let r = room-no _ _ (sym (ap listingValues e) ∙ l-room) in
+              let b : new ≡ list = d ∙ rw (listing-is, r .1) in
+              sym (written-is ∙ rw (r .1, b, r .0))
 
           -- Success
-          pub all-written : {count : ℕ} → l ≡ Listing.Written count → {new : List ℕ} → new ≡ listAfter l (rowsRecords attention nodes (tableGraph act ch) marks (sizeOf act)) list
+          pub all-written : {count : ℕ} → l ≡ Listing.Written count → {new : List ℕ} → new ≡ listAfter attention nodes marks act ch list
               → doneOutcome count (finished (tableGraph act ch) root .steps) new ≡ isolate file attention words read list
-          unfolding outcome.written recordSize chipGraph
+          unfolding outcome.listOutcome recordSize chipGraph listAfter hasRoom
           all-written {count} e {new} d =
-              let r = room-yes _ _ (sym l-room ∙ e) in
+              let r = room-yes _ _ (sym (ap listingValues e) ∙ l-room) in
               let ls = listing (chipGraph c attention words read) root in
               let b : new ≡ recordsOf c attention ls ++ drop (length ls * 8) list =
-              d ∙ ap (λ x. listAfter x (rowsRecords attention nodes (tableGraph act ch) marks (sizeOf act)) list) e
-              ∙ ap (λ x. x ++ drop (length x) list) records-are
-              ∙ ap (λ x. recordsOf c attention ls ++ drop x list) (listing-length c attention (chipGraph c attention words read) root refl) in
+              d ∙ rw (listing-is, r .1, records-are)
+              (ap (λ x. recordsOf c attention ls ++ drop x list) (listing-length c attention (chipGraph c attention words read) root refl)) in
               let s : finished (tableGraph act ch) root .steps ≡ reachedCount (chipGraph c attention words read) root =
-              steps-are act ch root marks marks-are inside-tables ∙ tables-count c meets attention words read act ch rest act-is ch-is root inside in
+              steps-reached (tableGraph act ch) root inside-tables ∙ tables-count c meets attention words read act ch rest act-is ch-is root inside in
               sym (written-is ∙ rw (r .1, b, s, r .0))

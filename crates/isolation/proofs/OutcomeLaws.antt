@@ -18,9 +18,10 @@ use Rattle.format.specs.Verdict.{verdict}
 use Rattle.format.proofs.EveryLaws.{every-all, every-gathered-in}
 use Rattle.format.proofs.NumberedLaws.{verdict-numbered}
 use Rattle.isolation.specs.Readings.{readingsFit, unreadFaults}
-use Rattle.isolation.specs.ChipGraph.{rootFor, ruleUnread, chipGraph}
+use Rattle.format.specs.Finding.{rootFor}
+use Rattle.isolation.specs.ChipGraph.{ruleUnread, chipGraph}
 use Rattle.listing.specs.Records.{recordSize, listing, recordsOf}
-use Rattle.isolation.specs.Outcome.{Outcome, refusedOutcome, doneOutcome, entryUnread, reachedUnread, written, allRead, fromRoot, isolateIn, isolate}
+use Rattle.isolation.specs.Outcome.{Outcome, refusedOutcome, doneOutcome, entryUnread, reachedUnread, listOutcome, allRead, fromRoot, isolateIn, isolate}
 
 -- Unread registers have number 18
 
@@ -63,8 +64,8 @@ refusal : (n p : ℕ) (list : List ℕ) → 1 ≤ n → n ≤ 19 → Refused lis
 refusal n p list l h = record { number = n; place = p; low = l; high = h; is = refl }
 
 written-cases : (c : Chip) (attention : ℕ) (g : Graph) (root : ℕ) (list : List ℕ)
-    → Refused list (written c attention g root list) ⊎ (leb (length (listing g root)) (length list / recordSize) ≡ true)
-unfolding written
+    → Refused list (listOutcome c attention g root list) ⊎ (leb (length (listing g root)) (length list / recordSize) ≡ true)
+unfolding listOutcome
 written-cases c attention g root list = go (leb (length (listing g root)) (length list / recordSize))
   where
     go : (t : Bool)
@@ -102,7 +103,7 @@ module _ (file : List ℕ) (attention : ℕ) (words read list : List ℕ) where
       isolate file attention words read list
       ≡ doneOutcome (length ls) (reachedCount g (nodePosition (s .chip) (s .root .id) (s .root .number)))
       (recordsOf (s .chip) attention ls ++ drop (length ls * recordSize) list))
-  unfolding isolate isolateIn fromRoot allRead written
+  unfolding isolate isolateIn fromRoot allRead listOutcome
   succeeds-in s = rw (s .accepted, s .known, s .rooted, s .fit, s .valued, s .room)
 
   rooted-cases : (c : Chip) (end : ℕ) → verdict file ≡ done c end → knownAttention attention ≡ true → (ts : List Root) → rootFor attention c ≡ ts
@@ -118,14 +119,14 @@ module _ (file : List ℕ) (attention : ℕ) (words read list : List ℕ) where
       p = nodePosition c (t .id) (t .number)
 
       go : (b : Bool) → readingsFit c words read ≡ b
-          → Refused list (cond b (allRead (reachedUnread c attention read g p) list (written c attention g p list)) (refusedOutcome 17 0 list)) ⊎ Succeeds
+          → Refused list (cond b (allRead (reachedUnread c attention read g p) list (listOutcome c attention g p list)) (refusedOutcome 17 0 list)) ⊎ Succeeds
       go true f =
           ⊎-elim (λ z. inl z)
           (λ a. ⊎-elim (λ z. inl (record { number = z .number; place = z .place; low = z .low; high = z .high; is = a .1 ∙ z .is }))
           (λ w. inr
           (record { chip = c; end = end; root = t; roots = ts; accepted = v; known = k; rooted = r; fit = f; valued = a .0; room = w }))
           (written-cases c attention g p list))
-          (read-cases (reachedUnread c attention read g p) list (written c attention g p list) (reached-eighteen c attention read g p))
+          (read-cases (reachedUnread c attention read g p) list (listOutcome c attention g p list) (reached-eighteen c attention read g p))
       go false f = inl (refusal 17 0 list (omega arith) (omega arith))
 
   -- Isolation refuses or succeeds.

@@ -1,65 +1,33 @@
 -- The wanted root by its position, and refusals 15 to 17.
-use Prim.Native.Nat.{ℕ, suc, _≤_, _<_}
-use mathlib.Core.Bool.{Bool, true, false, cond, _||_}
+use Prim.Native.Nat.{ℕ, _≤_, _<_}
+use mathlib.Core.Bool.{Bool, true, false}
 use mathlib.Core.List.{List, [], _∷_}
-use mathlib.Core.Logic.{_⊎_, ⊎-elim}
-use mathlib.Core.Path.{_≡_, refl, sym, _∙_, ap}
+use mathlib.Core.Logic.{_⊎_, inl, inr, ⊎-elim}
+use mathlib.Core.Path.{_≡_, sym, _∙_, ap}
 use native.Mathlib.Omega.{arith}
 use lib.Dec.{eqb}
 use lib.ListN.{length, length-map}
 use borrow.Author.Tests.{le-leb, lt-leb}
-use Rattle.numbers.proofs.BigEndianLaws.{Bytes}
-use Rattle.numbers.proofs.Bools.{either, clash}
+use Rattle.numbers.specs.BigEndian.{Bytes}
+use Rattle.numbers.proofs.Bools.{either}
 use Rattle.format.specs.Fields.{knownAttention}
 use Rattle.format.specs.Limits.{nodeLimit}
-use Rattle.format.specs.Lookup.{some, position, at, registerEntries, nodeEntries, nodePosition}
-use Rattle.format.specs.Parsed.{done}
+use Rattle.format.specs.Lookup.{some, registerEntries, nodeEntries, nodePosition}
 use Rattle.format.specs.Rules.{Meets}
 use Rattle.format.specs.Tree.{Root}
-use Rattle.format.proofs.Acceptance.{acceptance, read-to-end}
-use Rattle.format.proofs.PositionsLaws.{at-first, at-next, every-at, inside-at}
-use Rattle.tables.specs.Faults.{positionIn}
-use Rattle.references.specs.RootIn.{rootPosition}
-use Rattle.references.proofs.TablesLaws.{node-position-in}
+use Rattle.format.proofs.Acceptance.{verdict-meets}
 use Rattle.isolation.specs.Activity.{fitting}
-use Rattle.isolation.specs.ChipGraph.{rootFor}
+use Rattle.format.specs.Finding.{rootFor}
+use Rattle.reader.specs.Prepared.{rootPlace}
 use Rattle.isolation.specs.Outcome.{refusedOutcome, isolate}
 use Rattle.isolation.specs.Ready.{Tabled, Ready}
 use Rattle.isolation.proofs.AnswerLaws.{type-refused, root-refused, readings-refused}
-use Rattle.isolation.proofs.ChipLaws.{first-none, first-some, root-inside}
-
-module _ (nodes : List ℕ) (attention : ℕ) where
-  abbrev wanted : Root → Bool
-  wanted t = eqb (t .attention) attention
-
-  -- Where no root is wanted.
-  position-nowhere : (ts : List Root) → some wanted ts ≡ false → rootPosition nodes attention ts ≡ 65535
-  unfolding rootPosition some
-  position-nowhere [] h = refl
-  position-nowhere (t ∷ ts) h = go (wanted t) h (position-nowhere ts)
-    where
-      go : (b : Bool) → b || some wanted ts ≡ false → (some wanted ts ≡ false → rootPosition nodes attention ts ≡ 65535)
-          → cond b (positionIn nodes (t .id) (t .number)) (rootPosition nodes attention ts) ≡ 65535
-      go true e r = clash refl e
-      go false e r = r e
-
-  -- The first wanted root's node instance.
-  position-first : (ts : List Root) {x : Root} → at (position wanted ts) ts ≡ x ∷ [] → rootPosition nodes attention ts ≡ positionIn nodes (x .id) (x .number)
-  unfolding rootPosition position
-  position-first [] {x} q = absurd (let z : 0 < 0 = inside-at 0 [] q in omega arith)
-  position-first (t ∷ ts) {x} q = go (wanted t) q (position-first ts)
-    where
-      go : (b : Bool) → at (cond b 0 (suc (position wanted ts))) (t ∷ ts) ≡ x ∷ [] → (at (position wanted ts) ts ≡ x ∷ [] → rootPosition nodes attention ts ≡ positionIn nodes (x .id) (x .number))
-          → cond b (positionIn nodes (t .id) (t .number)) (rootPosition nodes attention ts) ≡ positionIn nodes (x .id) (x .number)
-      go true e r =
-          let w : t ≡ x = let z : t ∷ [] ≡ x ∷ [] = sym (at-first t ts) ∙ e in cc in
-          ap (λ (y : Root). positionIn nodes (y .id) (y .number)) w
-      go false e r = r (sym (at-next (position wanted ts) t ts) ∙ e)
+use Rattle.format.proofs.FindingLaws.{first-none, first-some, root-inside}
 
 module _ (file : List ℕ) (bytes : Bytes file) (attention : ℕ) (words read list keys nodes rules children : List ℕ) (root : ℕ)
-    (t : Tabled file attention keys nodes rules children) (r : root ≡ rootPosition nodes attention (t .chip .roots)) where
+    (t : Tabled file attention keys nodes rules children) (r : root ≡ rootPlace (t .chip) (rootFor attention (t .chip))) where
   meets : Meets (t .chip)
-  meets = acceptance file bytes (t .chip) .0 (t .accepted ∙ ap (done (t .chip)) (read-to-end file bytes (t .accepted))) .2
+  meets = verdict-meets file bytes (t .accepted)
 
   few : length (nodeEntries (t .chip)) ≤ 256
   unfolding nodeLimit
@@ -71,34 +39,29 @@ module _ (file : List ℕ) (bytes : Bytes file) (attention : ℕ) (words read li
   abbrev test : Root → Bool
   test x = eqb (x .attention) attention
 
-  -- A root that is found stands inside the file.
-  found : some test (t .chip .roots) ≡ true → (x : Root) × (rootFor attention (t .chip) ≡ x ∷ []) × (root ≡ nodePosition (t .chip) (x .id) (x .number)) × (root < length nodes)
-  unfolding rootFor nodePosition
-  found h =
-      let f = first-some test (t .chip .roots) h in
-      let x = f .0 in
-      let b = every-at _ (position test (t .chip .roots)) (t .chip .roots) (meets .fields .roots) (f .2) in
-      let p : root ≡ nodePosition (t .chip) (x .id) (x .number) =
-      r ∙ position-first nodes attention (t .chip .roots) (f .2) ∙ ap (λ k. positionIn k (x .id) (x .number)) (t .nodes-are)
-      ∙ node-position-in (t .chip) (meets .fields) (x .id) (x .number) (omega (arith, b .0)) (b .1)
-      in
-      let i = root-inside (t .chip) (meets .present) _ (f .2) in
-      (x, f .1, p, omega (arith, size-is, p, i))
+  -- There is no root, or its node instance stands inside the file.
+  root-cases : (rootFor attention (t .chip) ≡ [])
+      ⊎ ((x : Root) × (rootFor attention (t .chip) ≡ x ∷ []) × (nodePosition (t .chip) (x .id) (x .number) < length (nodeEntries (t .chip))))
+  unfolding rootFor
+  root-cases =
+      ⊎-elim
+      (λ h. let f = first-some test (t .chip .roots) h in inr (f .0, f .1, root-inside (t .chip) (meets .present) _ (f .2)))
+      (λ h. inl (first-none test (t .chip .roots) h))
+      (either (some test (t .chip .roots)))
+
+  place-none : rootFor attention (t .chip) ≡ [] → root ≡ 0xFFFF
+  unfolding rootPlace
+  place-none e = r ∙ rw e
+
+  place-one : (x : Root) → rootFor attention (t .chip) ≡ x ∷ [] → root ≡ nodePosition (t .chip) (x .id) (x .number)
+  unfolding rootPlace
+  place-one x e = r ∙ rw e
 
   pub no-root : length nodes ≤ root → rootFor attention (t .chip) ≡ []
-  unfolding rootFor
-  no-root l =
-      ⊎-elim
-      (λ h. let f = found h in absurd (omega (arith, f .3)))
-      (λ h. first-none test (t .chip .roots) h)
-      (either (some test (t .chip .roots)))
+  no-root l = ⊎-elim (λ e. e) (λ x. absurd (omega (arith, size-is, place-one (x .0) (x .1), x .2))) root-cases
 
   pub a-root : root < length nodes → (x : Root) × (rootFor attention (t .chip) ≡ x ∷ []) × (root ≡ nodePosition (t .chip) (x .id) (x .number))
-  a-root l =
-      ⊎-elim
-      (λ h. let f = found h in (f .0, f .1, f .2))
-      (λ h. absurd (omega (arith, size-is, few, r ∙ position-nowhere nodes attention (t .chip .roots) h)))
-      (either (some test (t .chip .roots)))
+  a-root l = ⊎-elim (λ e. absurd (omega (arith, size-is, few, place-none e))) (λ x. (x .0, x .1, place-one (x .0) (x .1))) root-cases
 
   -- 15 to 17.
   pub small-type : attention < 1 → refusedOutcome 15 0 list ≡ isolate file attention words read list

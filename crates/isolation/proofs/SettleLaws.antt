@@ -2,8 +2,9 @@
 use Prim.Native.Nat.{ℕ, _≤_}
 use mathlib.Core.List.{List, [], _∷_, map}
 use mathlib.Core.Path.{_≡_, refl, sym, _∙_, ap}
+use native.Mathlib.Omega.{arith}
 use lib.ListN.{length, take, getD, replicate, length-map, length-replicate}
-use Rattle.numbers.proofs.BigEndianLaws.{Bytes}
+use Rattle.numbers.specs.BigEndian.{Bytes}
 use Rattle.format.specs.Lookup.{at, NodeEntry, registerEntries, nodeEntries}
 use Rattle.format.specs.Limits.{nodeLimit}
 use Rattle.format.specs.Parsed.{done}
@@ -13,21 +14,22 @@ use Rattle.format.specs.Verdict.{verdict}
 use Rattle.format.proofs.Acceptance.{acceptance, read-to-end}
 use Rattle.tables.specs.Tables.{written}
 use Rattle.tables.specs.Keys.{registerKeys}
-use Rattle.links.specs.Links.{rulePlace}
+use Rattle.format.specs.Finding.{ruleFor}
+use Rattle.reader.specs.Prepared.{expressionPlace}
 use Rattle.walk.specs.declared.Walked.{Walked}
 use Rattle.walk.specs.Marks.{finished}
-use Rattle.walk.specs.TableGraph.{sizeOf, tableGraph}
+use Rattle.walk.specs.TableGraph.{tableSize, tableGraph}
 use Rattle.listing.specs.declared.Listing
 use Rattle.listing.specs.declared.Listing.{Listing}
 use Rattle.isolation.specs.Activity.{RulesAgain, activeWord, unreadPlace, firstUnread}
 use Rattle.isolation.specs.Outcome.{refusedOutcome, doneOutcome, isolate}
 use Rattle.isolation.specs.Ready.{Ready}
-use Rattle.listing.specs.Rows.{rowsRecords, listingOf, listAfter}
-use Rattle.isolation.proofs.AnswerLaws.{column-front, column-entry, unread-refused, never-unfit, room-refused, all-written}
+use Rattle.listing.specs.Rows.{listingValues, roomFor, tableLinks, listAfter}
+use Rattle.isolation.proofs.AnswerLaws.{column-front, column-entry, unread-refused, room-refused, all-written}
 use Rattle.isolation.proofs.UnreadLaws.{entries-rules}
 
 module _ (file : List ℕ) (bytes : Bytes file) (attention : ℕ) (words read list keys nodes rules children : List ℕ) (root : ℕ)
-    (ready : Ready file attention words read keys nodes rules children root) where
+    (ready : Ready file attention words read keys nodes rules children root) {n : ℕ} (n-is : n ≡ tableSize nodes) where
   abbrev chip : Chip
   chip = ready .tabled .chip
 
@@ -41,19 +43,24 @@ module _ (file : List ℕ) (bytes : Bytes file) (attention : ℕ) (words read li
   pub size-is : length nodes ≡ length (nodeEntries chip)
   size-is = ap length (ready .tabled .nodes-are) ∙ length-map (nodeEntries chip) _
 
+  -- The walk knows all of them.
+  pub count-is : n ≡ length (nodeEntries chip)
+  unfolding tableSize
+  count-is = omega (arith, n-is, size-is, few)
+
   -- The tables that the code fills.
   module _ {active unread : List ℕ}
-      (fa : (a : ℕ) (es : List NodeEntry) → Every (RulesAgain file) es → rules ≡ map (λ e. rulePlace a (e .instance .rules)) es → active ≡ written (replicate 256 0) 0 (map (activeWord keys words read a) es))
-      (fu : (a : ℕ) (es : List NodeEntry) → Every (RulesAgain file) es → rules ≡ map (λ e. rulePlace a (e .instance .rules)) es → unread ≡ written (replicate 256 0) 0 (map (unreadPlace keys read a) es)) where
+      (fa : (a : ℕ) (es : List NodeEntry) → Every (RulesAgain file) es → rules ≡ map (λ e. expressionPlace (ruleFor a (e .instance))) es → active ≡ written (replicate 256 0) 0 (map (activeWord keys words read a) es))
+      (fu : (a : ℕ) (es : List NodeEntry) → Every (RulesAgain file) es → rules ≡ map (λ e. expressionPlace (ruleFor a (e .instance))) es → unread ≡ written (replicate 256 0) 0 (map (unreadPlace keys read a) es)) where
     room : length (nodeEntries chip) ≤ length (replicate {A = ℕ} 256 0)
     room = rw (length-replicate {A = ℕ} 256 0) few
 
-    active-is : take (length nodes) active ≡ map (activeWord (registerKeys chip) words read attention) (nodeEntries chip)
+    active-is : take (n) active ≡ map (activeWord (registerKeys chip) words read attention) (nodeEntries chip)
     active-is =
         column-front (activeWord (registerKeys chip) words read attention) (nodeEntries chip) (replicate 256 0) active room
         (fa attention (nodeEntries chip) (entries-rules file bytes chip whole) (ready .tabled .rules-are)
         ∙ ap (λ k. written (replicate 256 0) 0 (map (activeWord k words read attention) (nodeEntries chip))) (ready .tabled .keys-are))
-        (length nodes) size-is
+        (n) count-is
 
     unread-is : (i : ℕ) (e : NodeEntry) → at i (nodeEntries chip) ≡ e ∷ [] → getD unread i 0 ≡ unreadPlace (registerKeys chip) read attention e
     unread-is =
@@ -61,40 +68,30 @@ module _ (file : List ℕ) (bytes : Bytes file) (attention : ℕ) (words read li
         (fu attention (nodeEntries chip) (entries-rules file bytes chip whole) (ready .tabled .rules-are)
         ∙ ap (λ k. written (replicate 256 0) 0 (map (unreadPlace k read attention) (nodeEntries chip))) (ready .tabled .keys-are))
 
-    module _ {w : Walked} (walked : w ≡ finished (tableGraph (take (length nodes) active) children) root) where
-      pub settled-unread : {p : ℕ} → p ≡ firstUnread (w .marks) unread (length nodes) → (p ≡ 0 → ⊥) → refusedOutcome 18 p list ≡ isolate file attention words read list
+    module _ {w : Walked} (walked : w ≡ finished (tableGraph (take (n) active) children) root) where
+      pub settled-unread : {p : ℕ} → p ≡ firstUnread (w .marks) unread (n) → (p ≡ 0 → ⊥) → refusedOutcome 18 p list ≡ isolate file attention words read list
       settled-unread d e =
           let t = ready .tabled in
           unread-refused file attention words read list chip (t .end) (t .accepted) (ready .known) (ready .first) (ready .others) (ready .rooted) (length (registerEntries chip)) refl
-          bytes (ready .fits) root (ready .root-is) (take (length nodes) active) children (t .rest) active-is (t .children-are) unread unread-is (w .marks) (ap (λ x. x .marks) walked) (length nodes) size-is d e
+          bytes (ready .fits) root (ready .root-is) (take (n) active) children (t .rest) active-is (t .children-are) unread unread-is (w .marks) (ap (λ x. x .marks) walked) (n) count-is d e
 
-      module _ {p : ℕ} (d : p ≡ firstUnread (w .marks) unread (length nodes)) (z : p ≡ 0) {l : Listing} (l-is : l ≡ listingOf nodes (w .marks) (take (length nodes) active) children (length list)) where
-        pub settled-unfit : {B : Type 0} → l ≡ Listing.Unfit → B
-        settled-unfit e =
-            let t = ready .tabled in
-            absurd
-            (never-unfit file attention words read list chip (t .end) (t .accepted) (ready .known) (ready .first) (ready .others) (ready .rooted) (length (registerEntries chip)) refl
-            bytes (ready .fits) root (ready .root-is) (take (length nodes) active) children (t .rest) active-is (t .children-are) unread unread-is (w .marks) (ap (λ x. x .marks) walked) (length nodes) size-is
-            (sym d ∙ z) nodes (t .nodes-are) l l-is e)
-
+      module _ {p : ℕ} (d : p ≡ firstUnread (w .marks) unread (n)) (z : p ≡ 0) {l : Listing} (l-is : listingValues l ≡ roomFor (length (tableLinks (w .marks) (take (n) active) children)) (length list)) where
         pub settled-room : {count : ℕ} → l ≡ Listing.NoRoom count → {new : List ℕ}
-            → new ≡ listAfter l (rowsRecords attention nodes (tableGraph (take (length nodes) active) children) (w .marks) (sizeOf (take (length nodes) active))) list
+            → new ≡ listAfter attention nodes (w .marks) (take (n) active) children list
             → refusedOutcome 19 count new ≡ isolate file attention words read list
-        settled-room {count} e {new} h =
+        settled-room e h =
             let t = ready .tabled in
-            let s : new ≡ list = h ∙ ap (λ x. listAfter x (rowsRecords attention nodes (tableGraph (take (length nodes) active) children) (w .marks) (sizeOf (take (length nodes) active))) list) e in
-            ap (refusedOutcome 19 count) s
-            ∙ room-refused file attention words read list chip (t .end) (t .accepted) (ready .known) (ready .first) (ready .others) (ready .rooted) (length (registerEntries chip)) refl
-            bytes (ready .fits) root (ready .root-is) (take (length nodes) active) children (t .rest) active-is (t .children-are) unread unread-is (w .marks) (ap (λ x. x .marks) walked) (length nodes) size-is
-            (sym d ∙ z) nodes (t .nodes-are) l l-is e
+            room-refused file attention words read list chip (t .end) (t .accepted) (ready .known) (ready .first) (ready .others) (ready .rooted) (length (registerEntries chip)) refl
+            bytes (ready .fits) root (ready .root-is) (take (n) active) children (t .rest) active-is (t .children-are) unread unread-is (w .marks) (ap (λ x. x .marks) walked) (n) count-is
+            (sym d ∙ z) nodes (t .nodes-are) l l-is e h
 
         pub settled-written : {count : ℕ} → l ≡ Listing.Written count → {new : List ℕ}
-            → new ≡ listAfter l (rowsRecords attention nodes (tableGraph (take (length nodes) active) children) (w .marks) (sizeOf (take (length nodes) active))) list
+            → new ≡ listAfter attention nodes (w .marks) (take (n) active) children list
             → doneOutcome count (w .steps) new ≡ isolate file attention words read list
         settled-written {count} e {new} h =
             let t = ready .tabled in
-            let s : w .steps ≡ finished (tableGraph (take (length nodes) active) children) root .steps = ap (λ x. x .steps) walked in
+            let s : w .steps ≡ finished (tableGraph (take (n) active) children) root .steps = ap (λ x. x .steps) walked in
             ap (λ x. doneOutcome count x new) s
             ∙ all-written file attention words read list chip (t .end) (t .accepted) (ready .known) (ready .first) (ready .others) (ready .rooted) (length (registerEntries chip)) refl
-            bytes (ready .fits) root (ready .root-is) (take (length nodes) active) children (t .rest) active-is (t .children-are) unread unread-is (w .marks) (ap (λ x. x .marks) walked) (length nodes) size-is
+            bytes (ready .fits) root (ready .root-is) (take (n) active) children (t .rest) active-is (t .children-are) unread unread-is (w .marks) (ap (λ x. x .marks) walked) (n) count-is
             (sym d ∙ z) nodes (t .nodes-are) l l-is e h

@@ -3,44 +3,43 @@ use Prim.Native.Nat.{ℕ, _+_, _-_, _*_, _^_, _≤_, _<_}
 use mathlib.Core.Bool.{Bool, true, false, cond, _&&_}
 use mathlib.Core.List.{List, [], _∷_, _++_, map}
 use mathlib.Core.Logic.{⊎-elim}
-use mathlib.Core.Option.{none}
+use mathlib.Core.Option as option
+use mathlib.Core.Option.{Option, none}
 use mathlib.Core.Path.{_≡_, refl, sym, _∙_, ap}
 use native.Mathlib.Nat.{zero-div}
 use native.Mathlib.Omega.{arith}
-use lib.Dec.{ltb, eqb}
+use lib.Dec.{ltb}
 use lib.ListN.{length, getD, length-map}
-use borrow.Author.Tests.{lt-ltb}
+use borrow.Author.Tests.{lt-ltb, le-ltb}
 use Rattle.numbers.specs.Bits.{bitOf}
 use Rattle.graph.specs.Chains.{reachedFrom, reachedCount}
-use Rattle.format.specs.Limits.{nodeLimit}
-use Rattle.format.specs.Lookup.{some, position, at, gathered, NodeEntry, nodeEntries, registerPosition, nodePosition}
-use Rattle.format.specs.Meaning.{valueOf}
+use Rattle.format.specs.Limits.{levels, nodeLimit}
+use Rattle.format.specs.Lookup.{some, at, gathered, NodeEntry, nodeEntries, registerPosition}
+use Rattle.format.specs.Meaning.{valueWithin}
 use Rattle.format.specs.References.{Named, Fault, namedBy}
-use Rattle.format.specs.Rules.{Every, ExprFits, allRules, Meets}
-use Rattle.format.specs.Tree.{Rule, Child, Chip}
+use Rattle.format.specs.Rules.{Every, ExprFits, allRules, allChildren, Meets}
+use Rattle.format.specs.Tree.{Rule, Chip}
 use Rattle.format.proofs.EveryLaws.{every-map, every-gathered-out}
 use Rattle.format.proofs.FaultsLaws.{some-none}
 use Rattle.format.proofs.GatheredLaws.{gathered-one, gathered-same}
-use Rattle.format.proofs.Grouping.{LayoutMeets}
 use Rattle.format.proofs.MeaningLaws.{value-same}
 use Rattle.format.proofs.PositionsLaws.{at-inside, every-at, some-one}
-use Rattle.tables.specs.Faults.{positionIn, wordIn, unreadIn}
-use Rattle.walk.specs.TableGraph.{sizeOf, childAt, tableGraph}
+use Rattle.walk.specs.TableGraph.{tableSize, childAt, tableGraph}
 use Rattle.walk.proofs.Tables.{table-sound}
-use Rattle.tables.specs.Keys.{registerKeys, nodeKeys}
-use Rattle.links.specs.Links.{childRow, childIn}
-use Rattle.links.proofs.TableLaws.{at-most, table-child}
-use Rattle.tables.proofs.ColumnLaws.{column-at}
-use Rattle.references.proofs.KeysLaws.{Fitting, names-fit}
-use Rattle.references.proofs.TablesLaws.{register-position-in}
-use Rattle.reader.proofs.CycleLaws.{children-fit, entry-children}
-use Rattle.rules.specs.Value.{faulty}
-use Rattle.isolation.specs.ChipGraph.{firstOf, ruleFor, childFor, ruleUnread, isNone, ruleActive, entryActive, childPosition, entryChild, chipGraph}
+use Rattle.tables.specs.Keys.{registerKeys}
+use Rattle.reader.specs.Prepared.{positionOr, childPlaces, childColumn}
+use Rattle.reader.proofs.ChildPlacesLaws.{row-length, row-place}
+use Rattle.tables.proofs.ColumnLaws.{column-at, rows-place}
+use Rattle.tables.proofs.KeysLaws.{Fitting, names-fit, register-position-in}
+use Rattle.evaluation.specs.Value.{wordIn, unreadIn, faulty}
+use Rattle.format.specs.Finding.{ruleFor, childFor, childPosition}
+use Rattle.isolation.specs.ChipGraph.{ruleUnread, isNone, ruleActive, entryActive, entryChild, chipGraph}
 use Rattle.isolation.specs.Outcome.{entryUnread}
 use Rattle.isolation.specs.Readings.{hasValue, wordFor, unreadFaults}
 use Rattle.listing.specs.Records.{listing}
 use Rattle.isolation.specs.Activity.{unreadBy, exprWord, activeWord}
-use Rattle.isolation.proofs.ActivityLaws.{rule-cases, no-rule, one-rule}
+use Rattle.format.proofs.FindingLaws.{rule-cases, child-inside}
+use Rattle.isolation.proofs.ActivityLaws.{no-rule, one-rule}
 use Rattle.isolation.proofs.ChipLaws.{chip-sound}
 use Rattle.isolation.proofs.GraphsLaws.{Agree, agree-reached, reached-same, listing-same, count-reached-same}
 
@@ -53,23 +52,26 @@ bit-none w b = rw (zero-div (2 ^ (w - 1 - b))) (go (ltb b w))
     go true = refl
     go false = refl
 
--- The rules of the layout are some of the rules.
-pub layout-of : {c : Chip} → Meets c → LayoutMeets c
-layout-of m =
-    record {
-      fields = m .fields;
-      counts = m .counts;
-      known = m .known;
-      unique = m .unique;
-      limits = m .limits;
-      expressions = m .expressions;
-      bits = m .bits;
-    }
-
 module _ (c : Chip) (meets : Meets c) where
   pub entries-few : length (nodeEntries c) ≤ 256
   unfolding nodeLimit
   entries-few = meets .limits .nodes
+
+  -- A place of the table of children says what the bit's child entry says.
+  held : (table : List ℕ) (k : ℕ) (x : Option ℕ) → ((j : ℕ) → x ≡ option.some j → j < length (nodeEntries c)) → k < length table → getD table k 0 ≡ positionOr x
+      → childAt (length (nodeEntries c)) table k ≡ x
+  unfolding childAt positionOr
+  held table k none p h g = let z : length (nodeEntries c) ≤ getD table k 0 = omega (arith, entries-few) in simp (lt-ltb _ _ h, le-ltb _ _ z)
+  held table k (option.some j) p h g = let z : getD table k 0 ≡ j = g in simp (lt-ltb _ _ h, z, lt-ltb _ _ (p j refl))
+
+  table-child : (i b : ℕ) (e : NodeEntry) → at i (nodeEntries c) ≡ e ∷ [] → b < 64 → (rest : List ℕ)
+      → childAt (length (nodeEntries c)) (childColumn c ++ rest) (i * 64 + b) ≡ childPosition c (childFor b (e .instance))
+  unfolding childFor allChildren
+  table-child i b e q l rest =
+      let p = rows-place (λ e. childPlaces c (e .instance)) (λ e. row-length c (e .instance)) rest (nodeEntries c) i q b l in
+      held (childColumn c ++ rest) (i * 64 + b) _
+      (λ j w. child-inside c b (e .instance .children) (every-at _ i (nodeEntries c) (every-gathered-out _ _ (nodeEntries c) (meets .present .children)) q) w)
+      (p .1) (p .0 ∙ row-place c (e .instance) b l)
 
   -- By the keys, a name in a rule has the word and the faults that it has by the chip.
   pub word-same : (words : List ℕ) (n : Named) → Fitting n → wordIn (registerKeys c) words (n .id) (n .number) ≡ wordFor c words (n .id) (n .number)
@@ -86,9 +88,9 @@ module _ (c : Chip) (meets : Meets c) where
       gathered-same _ _ (namedBy (r .expression)) (every-map _ _ (unread-same read) (namedBy (r .expression)) (names-fit (r .expression) h))
 
   rule-value : (words : List ℕ) (r : Rule) → ExprFits (r .expression)
-      → valueOf 64 (wordIn (registerKeys c) words) (r .expression) ≡ valueOf 64 (wordFor c words) (r .expression)
+      → valueWithin levels 64 (wordIn (registerKeys c) words) (r .expression) ≡ valueWithin levels 64 (wordFor c words) (r .expression)
   rule-value words r h =
-      value-same 64 _ _ (r .expression) (every-map _ _ (word-same words) (namedBy (r .expression)) (names-fit (r .expression) h))
+      value-same 64 _ _ levels (r .expression) (every-map _ _ (word-same words) (namedBy (r .expression)) (names-fit (r .expression) h))
 
   rule-bit : (words read : List ℕ) (b : ℕ) (r : Rule) → ExprFits (r .expression)
       → bitOf 64 (exprWord (registerKeys c) words read (r .expression)) b ≡ ruleActive c words read b r
@@ -96,7 +98,7 @@ module _ (c : Chip) (meets : Meets c) where
   rule-bit words read b r h = rw (rule-unread read r h, rule-value words r h) (go (ruleUnread c read r))
     where
       v : ℕ
-      v = valueOf 64 (wordFor c words) (r .expression)
+      v = valueWithin levels 64 (wordFor c words) (r .expression)
 
       go : (fs : List Fault) → bitOf 64 (cond (faulty fs) 0 v) b ≡ isNone fs && bitOf 64 v b
       go [] = refl
@@ -124,42 +126,23 @@ module _ (c : Chip) (meets : Meets c) where
     entry-bit b e h =
         ⊎-elim
         (λ z.
-        ap (λ x. bitOf 64 x b) (no-rule (registerKeys c) words read attention e (z .1) .0) ∙ bit-none 64 b ∙ sym (entry-none b e (z .1)))
+        ap (λ x. bitOf 64 x b) (no-rule (registerKeys c) words read attention e z .0) ∙ bit-none 64 b ∙ sym (entry-none b e z))
         (λ z.
-        ap (λ x. bitOf 64 x b) (one-rule (registerKeys c) words read attention e (z .0) (z .3) .0) ∙ rule-bit words read b (z .0) (z .1)
-        ∙ sym (entry-one b e (z .0) (z .3)))
+        ap (λ x. bitOf 64 x b) (one-rule (registerKeys c) words read attention e (z .0) (z .2) .0) ∙ rule-bit words read b (z .0) (z .1)
+        ∙ sym (entry-one b e (z .0) (z .2)))
         (rule-cases (λ r. ExprFits (r .expression)) attention (e .instance) h)
-
-    -- So is the child of a bit by the keys its child.
-    child-none : (ks : List Child) → ks ≡ [] → childIn (nodeKeys c) ks ≡ childPosition c ks
-    unfolding childIn childPosition
-    child-none ks q = rw q
-
-    child-some : (ks : List Child) (k : Child) → ks ≡ k ∷ [] → positionIn (nodeKeys c) (k .id) (k .number) ≡ nodePosition c (k .id) (k .number) → childIn (nodeKeys c) ks ≡ childPosition c ks
-    unfolding childIn childPosition
-    child-some ks k q e = rw (q, e)
-
-    entry-child : (i b : ℕ) (e : NodeEntry) → at i (nodeEntries c) ≡ e ∷ []
-        → childIn (nodeKeys c) (at (position (λ k. eqb (k .bit) b) (e .instance .children)) (e .instance .children)) ≡ childPosition c (childFor b (e .instance))
-    unfolding childFor firstOf nodePosition
-    entry-child i b e q =
-        let ks = e .instance .children in
-        let p = position (λ k. eqb (k .bit) b) ks in
-        ⊎-elim (child-none (at p ks))
-        (λ z. child-some (at p ks) (z .0) (z .1) (every-at _ p ks (every-at _ i (nodeEntries c) (entry-children c (layout-of meets) (meets .present)) q) (z .1) .0))
-        (at-most p ks)
 
     -- A table of active bits, and one of children with anything behind them.
     module _ (act ch rest : List ℕ) (act-is : act ≡ map (activeWord (registerKeys c) words read attention) (nodeEntries c))
-        (ch-is : ch ≡ gathered (λ e. childRow (nodeKeys c) (e .instance)) (nodeEntries c) ++ rest) where
+        (ch-is : ch ≡ childColumn c ++ rest) where
       pub act-length : length act ≡ length (nodeEntries c)
       act-length = ap length act-is ∙ length-map (nodeEntries c) (activeWord (registerKeys c) words read attention)
 
-      pub act-size : sizeOf act ≡ length (nodeEntries c)
-      unfolding sizeOf
+      pub act-size : tableSize act ≡ length (nodeEntries c)
+      unfolding tableSize
       act-size = omega (arith, act-length, entries-few)
 
-      act-bit : (i b : ℕ) → i < sizeOf act → ltb i (sizeOf act) && bitOf 64 (getD act i 0) b ≡ some (entryActive c attention words read b) (at i (nodeEntries c))
+      act-bit : (i b : ℕ) → i < tableSize act → ltb i (tableSize act) && bitOf 64 (getD act i 0) b ≡ some (entryActive c attention words read b) (at i (nodeEntries c))
       act-bit i b h =
           let d = at-inside i (nodeEntries c) (omega (arith, act-size)) in
           let e = d .0 in
@@ -168,13 +151,13 @@ module _ (c : Chip) (meets : Meets c) where
           rw (lt-ltb _ _ h, w, d .1)
           (entry-bit b e (every-at RulesFit i (nodeEntries c) rules-fit (d .1)) ∙ sym (some-one (entryActive c attention words read b) e))
 
-      ch-child : (i b : ℕ) → i < sizeOf act → b < 64
-          → cond (ltb i (sizeOf act) && ltb b 64) (childAt (sizeOf act) ch (i * 64 + b)) none ≡ entryChild c b (at i (nodeEntries c))
+      ch-child : (i b : ℕ) → i < tableSize act → b < 64
+          → cond (ltb i (tableSize act) && ltb b 64) (childAt (tableSize act) ch (i * 64 + b)) none ≡ entryChild c b (at i (nodeEntries c))
       unfolding entryChild
       ch-child i b h l =
           let d = at-inside i (nodeEntries c) (omega (arith, act-size)) in
           rw (lt-ltb _ _ h, lt-ltb b 64 l, act-size, ch-is, d .1)
-          (table-child (nodeKeys c) (nodeEntries c) entries-few (children-fit c (layout-of meets) (meets .present)) i (d .1) b l rest ∙ entry-child i b (d .0) (d .1))
+          (table-child i b (d .0) (d .1) l rest)
 
       -- They give the chip's graph.
       pub tables-agree : Agree (tableGraph act ch) (chipGraph c attention words read) (λ i. i < tableGraph act ch .size)
@@ -205,8 +188,8 @@ module _ (c : Chip) (meets : Meets c) where
   unfolding entryUnread gathered
   entry-unread attention read e h =
       ⊎-elim
-      (λ z. rw (z .1))
+      (λ z. rw z)
       (λ z.
-      rw (z .3)
+      rw (z .2)
       (gathered-one (λ r. unreadBy (registerKeys c) read (r .expression)) (z .0) ∙ rule-unread read (z .0) (z .1) ∙ sym (gathered-one (ruleUnread c read) (z .0))))
       (rule-cases (λ r. ExprFits (r .expression)) attention (e .instance) h)

@@ -8,7 +8,7 @@ use native.Mathlib.Omega.{arith}
 use lib.Dec.{eqb}
 use lib.ListN.{length, getD}
 use borrow.Author.Tests.{ne-eqb}
-use Rattle.numbers.proofs.BigEndianLaws.{Bytes}
+use Rattle.numbers.specs.BigEndian.{Bytes}
 use Rattle.graph.specs.Chains.{below, reachedFrom}
 use Rattle.format.specs.Encoding.{encodeExpr}
 use Rattle.format.specs.ExpressionLayout.{exprAt}
@@ -26,15 +26,15 @@ use Rattle.format.proofs.GatheredLaws.{gathered-append, gathered-one}
 use Rattle.format.proofs.PlacesLaws.{entries-stand, rules-again}
 use Rattle.format.proofs.PositionsLaws.{at-inside, every-at}
 use Rattle.walk.specs.TableGraph.{tableGraph}
-use Rattle.tables.specs.Keys.{registerKeys, nodeKeys}
-use Rattle.links.specs.Links.{childRow}
-use Rattle.rules.specs.Value.{firstPlace}
+use Rattle.tables.specs.Keys.{registerKeys}
+use Rattle.reader.specs.Prepared.{childColumn}
+use Rattle.evaluation.specs.Value.{firstPlace}
 use Rattle.isolation.specs.ChipGraph.{ruleUnread, chipGraph}
 use Rattle.isolation.specs.Outcome.{Outcome, refusedOutcome, entryUnread, reachedUnread, allRead}
 use Rattle.isolation.specs.Readings.{unreadFaults}
 use Rattle.listing.specs.Rows.{isDone}
 use Rattle.isolation.specs.Activity.{activeWord, unreadPlace, RulesAgain, unreadAt, firstUnread}
-use Rattle.isolation.proofs.ActivityLaws.{rule-cases}
+use Rattle.format.proofs.FindingLaws.{rule-cases}
 use Rattle.isolation.proofs.GraphsLaws.{DoneReached, done-is}
 use Rattle.isolation.proofs.OutcomeLaws.{Eighteen, reached-eighteen}
 use Rattle.isolation.proofs.TablesLaws.{rules-fit, act-size, tables-reached, entry-unread}
@@ -130,8 +130,8 @@ module _ (c : Chip) (read : List ℕ) where
   unfolding entryUnread gathered
   entry-standing attention e h =
       ⊎-elim
-      (λ z. rw (z .1) no-fault)
-      (λ z. rw (z .3, gathered-one (ruleUnread c read) (z .0)) (rule-standing (z .0) (z .1)))
+      (λ z. rw z no-fault)
+      (λ z. rw (z .2, gathered-one (ruleUnread c read) (z .0)) (rule-standing (z .0) (z .1)))
       (rule-cases RulePlaced attention (e .instance) h)
 
 -- Places, instance after instance: the first is that of the first fault.
@@ -165,7 +165,7 @@ some-first (f ∷ fs) h e list o = rw (h .0)
 -- The tables of an accepted file, with marks that are done where the root reaches.
 module _ (s : List ℕ) (bytes : Bytes s) (c : Chip) (accepted : verdict s ≡ done c (length s)) (attention : ℕ) (words read : List ℕ) (act ch rest : List ℕ)
     (act-is : act ≡ map (activeWord (registerKeys c) words read attention) (nodeEntries c))
-    (ch-is : ch ≡ gathered (λ e. childRow (nodeKeys c) (e .instance)) (nodeEntries c) ++ rest)
+    (ch-is : ch ≡ childColumn c ++ rest)
     (root : ℕ) (inside : root < length (nodeEntries c)) (marks : List ℕ) (reached : DoneReached (tableGraph act ch) root marks) (unread : List ℕ)
     (unread-is : (i : ℕ) (e : NodeEntry) → at i (nodeEntries c) ≡ e ∷ [] → getD unread i 0 ≡ unreadPlace (registerKeys c) read attention e) where
   meets : Meets c

@@ -8,15 +8,14 @@ use lib.ListN.{length, getD}
 use Rattle.format.specs.ExpressionLayout.{exprAt}
 use Rattle.format.specs.Limits.{levels}
 use Rattle.format.specs.Lookup.{some, gathered, NodeEntry}
-use Rattle.format.specs.Meaning.{valueOf}
+use Rattle.format.specs.Meaning.{valueWithin}
 use Rattle.format.specs.Parsed.{done}
 use Rattle.format.specs.References.{Fault, namedBy}
 use Rattle.format.specs.Rules.{Every}
 use Rattle.format.specs.Tree.{Expr, Rule}
-use Rattle.tables.specs.Faults.{wordIn, unreadIn}
-use Rattle.rules.specs.Value.{faulty, firstPlace}
+use Rattle.evaluation.specs.Value.{wordIn, unreadIn, faulty, firstPlace}
 use Rattle.isolation.specs.declared.Activity.{Activity}
-use Rattle.isolation.specs.ChipGraph.{ruleFor}
+use Rattle.format.specs.Finding.{ruleFor}
 use Rattle.listing.specs.Rows.{isDone}
 
 -- What an expression names without a reading, in byte order.
@@ -25,7 +24,7 @@ unreadBy keys read e = gathered (unreadIn keys read) (namedBy e)
 
 -- The word that an expression means; 0 where it names an unread register.
 unfoldable pub exprWord : List ℕ → List ℕ → List ℕ → Expr → ℕ
-exprWord keys words read e = cond (faulty (unreadBy keys read e)) 0 (valueOf 64 (wordIn keys words) e)
+exprWord keys words read e = cond (faulty (unreadBy keys read e)) 0 (valueWithin levels 64 (wordIn keys words) e)
 
 -- That word of a rule, if there is one; otherwise 0.
 unfoldable pub ruleWord : List ℕ → List ℕ → List ℕ → List Rule → ℕ

@@ -15,7 +15,8 @@ use Rattle.format.specs.Verdict.{verdict}
 use Rattle.isolation.specs.declared.Isolated
 use Rattle.isolation.specs.declared.Isolated.{Isolated}
 use Rattle.isolation.specs.Readings.{readingsFit}
-use Rattle.isolation.specs.ChipGraph.{ruleFor, rootFor, ruleUnread, chipGraph}
+use Rattle.format.specs.Finding.{ruleFor, rootFor}
+use Rattle.isolation.specs.ChipGraph.{ruleUnread, chipGraph}
 use Rattle.listing.specs.Records.{recordSize, listing, recordsOf}
 
 -- The answer in the paper's numbers: number 0 is success; "Each refusal returns its number and place, zero records and zero steps, and the list keeps its bytes."
@@ -46,8 +47,8 @@ reachedUnread c attention read g root =
     gathered (λ i. cond (reachedFrom g root i) (gathered (entryUnread c attention read) (at i (nodeEntries c))) []) (below (g .size))
 
 -- "Success writes the records and no further byte"; 19 where they are more than the list's whole places.
-unfoldable pub written : Chip → ℕ → Graph → ℕ → List ℕ → Outcome
-written c attention g root list =
+unfoldable pub listOutcome : Chip → ℕ → Graph → ℕ → List ℕ → Outcome
+listOutcome c attention g root list =
     cond (leb (length (listing g root)) (length list / recordSize))
     (doneOutcome (length (listing g root)) (reachedCount g root)
     (recordsOf c attention (listing g root) ++ drop (length (listing g root) * recordSize) list))
@@ -65,7 +66,7 @@ fromRoot c attention words read list (t ∷ ts) =
     (allRead
     (reachedUnread c attention read (chipGraph c attention words read) (nodePosition c (t .id) (t .number)))
     list
-    (written c attention (chipGraph c attention words read) (nodePosition c (t .id) (t .number)) list))
+    (listOutcome c attention (chipGraph c attention words read) (nodePosition c (t .id) (t .number)) list))
     (refusedOutcome 17 0 list)
 
 unfoldable pub isolateIn : ℕ → List ℕ → List ℕ → List ℕ → Parsed Chip → Outcome

@@ -11,7 +11,7 @@ use Rattle.format.specs.Tree.{Root, Chip}
 use Rattle.format.specs.Verdict.{verdict}
 use Rattle.tables.specs.Keys.{registerKeys, nodeKeys}
 use Rattle.reader.specs.Prepared.{ruleColumn, childColumn}
-use Rattle.isolation.specs.ChipGraph.{rootFor}
+use Rattle.format.specs.Finding.{rootFor}
 use Rattle.isolation.specs.Activity.{fitting}
 
 -- The tables are those of the chip; other numbers may follow in the table of children.

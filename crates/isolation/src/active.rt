@@ -1,6 +1,6 @@
 // What the node instances' rules give with readings: the active bits of each, and where one names a register without a reading.
 use crate::Activity;
-use rules::value_at;
+use evaluation::value_at;
 use tables::entry;
 use tables::put;
 ghost use Prim.Native.Nat.{ℕ};
@@ -14,14 +14,18 @@ ghost use Rattle.format.specs.Lookup.{some, NodeEntry};
 ghost use Rattle.format.specs.Parsed.{done};
 ghost use Rattle.format.specs.Rules.{Every};
 ghost use Rattle.format.specs.Tree.{Expr};
-ghost use Rattle.links.specs.Links.{rulePlace};
+ghost use Rattle.format.specs.Finding.{ruleFor};
+ghost use Rattle.reader.specs.Prepared.{expressionPlace};
 ghost use Rattle.tables.specs.Tables.{written};
 ghost use Rattle.isolation.specs.Activity.{activeWord, unreadPlace, activityOf, inactive, RulesAgain, unreadAt, firstUnread, fitting};
 
 // What the rule whose expression stands at a place gives; 0 is the place of no rule. It reads each byte of the expression once.
 fn active_at(s: &[u8], at: usize, keys: &[u64], words: &[u64], read: &[u8]) -> Activity
     ensures { λ r. ⌜ (at ≡ 0 → r ≡ inactive) ⌝ }
-    ensures { λ r. ⌜ ((e : Expr) (m : ℕ) → (at ≡ 0 → ⊥) → exprAt (now (s .entry)) levels at ≡ done e m → r ≡ activityOf (now (keys .entry)) (now (words .entry)) (now (read .entry)) e) ⌝ }
+    ensures { λ r. ⌜ ((e : Expr) (m : ℕ)
+        → (at ≡ 0 → ⊥)
+        → exprAt (now (s .entry)) levels at ≡ done e m
+        → r ≡ activityOf (now (keys .entry)) (now (words .entry)) (now (read .entry)) e) ⌝ }
 {
     if at == 0 {
         return Activity { word: 0, unread: 0 };
@@ -50,9 +54,9 @@ pub fn fill_active(
     active: &mut [u64],
     unread: &mut [u64],
 )
-    ensures { λ r. ⌜ ((attention : ℕ) (es : List NodeEntry) → Every (RulesAgain (now (s .entry))) es → now (rules .entry) ≡ map (λ e. rulePlace attention (e .instance .rules)) es
+    ensures { λ r. ⌜ ((attention : ℕ) (es : List NodeEntry) → Every (RulesAgain (now (s .entry))) es → now (rules .entry) ≡ map (λ e. expressionPlace (ruleFor attention (e .instance))) es
         → now (active .exit) ≡ written (now (active .entry)) 0 (map (activeWord (now (keys .entry)) (now (words .entry)) (now (read .entry)) attention) es)) ⌝ }
-    ensures { λ r. ⌜ ((attention : ℕ) (es : List NodeEntry) → Every (RulesAgain (now (s .entry))) es → now (rules .entry) ≡ map (λ e. rulePlace attention (e .instance .rules)) es
+    ensures { λ r. ⌜ ((attention : ℕ) (es : List NodeEntry) → Every (RulesAgain (now (s .entry))) es → now (rules .entry) ≡ map (λ e. expressionPlace (ruleFor attention (e .instance))) es
         → now (unread .exit) ≡ written (now (unread .entry)) 0 (map (unreadPlace (now (keys .entry)) (now (read .entry)) attention) es)) ⌝ }
 {
     let mut i = 0;

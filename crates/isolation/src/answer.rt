@@ -10,7 +10,8 @@ use listing::Listing;
 use listing::write_list;
 use walk::run;
 ghost use mathlib.Core.Path.{_≡_};
-ghost use Rattle.references.specs.RootIn.{rootPosition};
+ghost use Rattle.format.specs.Finding.{rootFor};
+ghost use Rattle.reader.specs.Prepared.{rootPlace};
 ghost use Rattle.isolation.specs.Outcome.{outcomeOf, isolate};
 ghost use Rattle.isolation.specs.Ready.{Tabled, Ready};
 
@@ -27,15 +28,10 @@ fn settle(
     rules: &[u64],
     children: &[u16],
 ) -> Isolated
-    ensures { λ r. ⌜ (Ready (now (file .entry)) attention (now (words .entry)) (now (read .entry)) (now (keys .entry)) (now (nodes .entry)) (now (rules .entry)) (now (children .entry)) root → outcomeOf r (now (list .exit)) ≡ isolate (now (file .entry)) attention (now (words .entry)) (now (read .entry)) (now (list .entry))) ⌝ }
+    ensures { λ r. ⌜ (Ready (now (file .entry)) attention (now (words .entry)) (now (read .entry)) (now (keys .entry)) (now (nodes .entry)) (now (rules .entry)) (now (children .entry)) root
+        → outcomeOf r (now (list .exit)) ≡ isolate (now (file .entry)) attention (now (words .entry)) (now (read .entry)) (now (list .entry))) ⌝ }
 {
-    let n = nodes.len();
-    if format::NODE_LIMIT < n {
-        return Isolated::Refused(Refusal {
-            kind: Kind::TooManyInstances,
-            place: 0,
-        });
-    }
+    let n = walk::size(nodes);
     let mut active = [0u64; format::NODE_LIMIT];
     let mut unread = [0u64; format::NODE_LIMIT];
     fill_active(file, rules, keys, words, read, &mut active, &mut unread);
@@ -56,10 +52,6 @@ fn settle(
             kind: Kind::NoRoom,
             place: needed,
         }),
-        Listing::Unfit => Isolated::Refused(Refusal {
-            kind: Kind::TooManyInstances,
-            place: 0,
-        }),
     }
 }
 
@@ -76,7 +68,9 @@ pub fn answer(
     rules: &[u64],
     children: &[u16],
 ) -> Isolated
-    ensures { λ r. ⌜ ((t : Tabled (now (file .entry)) attention (now (keys .entry)) (now (nodes .entry)) (now (rules .entry)) (now (children .entry))) → root ≡ rootPosition (now (nodes .entry)) attention (t .chip .roots) → outcomeOf r (now (list .exit)) ≡ isolate (now (file .entry)) attention (now (words .entry)) (now (read .entry)) (now (list .entry))) ⌝ }
+    ensures { λ r. ⌜ ((t : Tabled (now (file .entry)) attention (now (keys .entry)) (now (nodes .entry)) (now (rules .entry)) (now (children .entry)))
+        → root ≡ rootPlace (t .chip) (rootFor attention (t .chip))
+        → outcomeOf r (now (list .exit)) ≡ isolate (now (file .entry)) attention (now (words .entry)) (now (read .entry)) (now (list .entry))) ⌝ }
 {
     if attention < 1 {
         return Isolated::Refused(Refusal {

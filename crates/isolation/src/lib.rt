@@ -1,7 +1,6 @@
 // Isolation: which error bits are active, from a chip data file and register readings.
 use crate::answer::answer;
 use format::Checked;
-use format::Kind;
 use format::Refusal;
 use reader::prepare::prepare;
 ghost use mathlib.Core.Path.{_≡_};
@@ -30,7 +29,8 @@ pub enum Isolated {
 
 // Isolation: the records of the active bits without a child that are reached from the wanted root, in the lent list; how many they are, and how many node instances were reached. Or a refusal, and the list keeps its bytes. The words and the read bytes stand in the register instances' file order.
 pub fn isolate(file: &[u8], attention: u8, words: &[u64], read: &[u8], list: &mut [u8]) -> Isolated
-    ensures { λ r. ⌜ outcomeOf r (now (list .exit)) ≡ isolate (now (file .entry)) attention (now (words .entry)) (now (read .entry)) (now (list .entry)) ⌝ }
+    ensures { λ r. ⌜ outcomeOf r (now (list .exit))
+        ≡ isolate (now (file .entry)) attention (now (words .entry)) (now (read .entry)) (now (list .entry)) ⌝ }
 {
     let mut keys = [0u64; format::REGISTER_LIMIT];
     let mut nodes = [0u64; format::NODE_LIMIT];
@@ -50,18 +50,6 @@ pub fn isolate(file: &[u8], attention: u8, words: &[u64], read: &[u8], list: &mu
         Checked::Accepted(s) => {
             let m = s.register_instances;
             let n = s.node_instances;
-            if format::REGISTER_LIMIT < m {
-                return Isolated::Refused(Refusal {
-                    kind: Kind::TooManyInstances,
-                    place: 0,
-                });
-            }
-            if format::NODE_LIMIT < n {
-                return Isolated::Refused(Refusal {
-                    kind: Kind::TooManyInstances,
-                    place: 0,
-                });
-            }
             answer(
                 file,
                 attention,

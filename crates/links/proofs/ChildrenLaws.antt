@@ -19,7 +19,7 @@ use Rattle.tables.specs.Faults.{positionIn}
 use Rattle.index.proofs.PartsLaws.{child-fields, naming-all}
 use Rattle.index.proofs.RowsLaws.{row-every}
 use Rattle.links.specs.declared.Link.{Link}
-use Rattle.links.specs.Links.{childNumber, linked, childless, childRow, linkOf}
+use Rattle.links.specs.Links.{childNumber, childrenPut, childless, childRow, linkOf}
 
 -- A child whose fields the code read.
 pub child-link : (s : List ℕ) (at : ℕ) {t a : ℕ} → done t a ≡ fieldAt s at 1 → (before : List Child) (k : Child) (m : ℕ) → childAt s true before at ≡ done k m
@@ -64,8 +64,8 @@ cleared-end t p (suc n) h = absurd (omega arith)
 
 -- Children in a table.
 
-pub linked-length : (nodes t : List ℕ) (at : ℕ) (ks : List Child) → length (linked nodes t at ks) ≡ length t
-unfolding linked
+pub linked-length : (nodes t : List ℕ) (at : ℕ) (ks : List Child) → length (childrenPut nodes t at ks) ≡ length t
+unfolding childrenPut
 linked-length nodes t at [] = refl
 linked-length nodes t at (k ∷ ks) = linked-length nodes (set t (at + k .bit) (childNumber nodes k)) at ks ∙ length-set t (at + k .bit) (childNumber nodes k)
 
@@ -74,12 +74,12 @@ unfolding childRow
 child-row-length nodes i = linked-length nodes (childless 64) 0 (i .children) ∙ childless-length 64
 
 pub link-next : (nodes t : List ℕ) (at : ℕ) (k : Child) (m : ℕ) {l : Link} {u : List ℕ} → l ≡ linkOf nodes k m → u ≡ set t (at + l .bit) (l .number)
-    → (l .next ≡ m) × ((ks : List Child) → linked nodes u at ks ≡ linked nodes t at (k ∷ ks))
-unfolding linked
+    → (l .next ≡ m) × ((ks : List Child) → childrenPut nodes u at ks ≡ childrenPut nodes t at (k ∷ ks))
+unfolding childrenPut
 link-next nodes t at k m e h = (ap (λ x. x .next) e, λ ks. rw (h, e))
 
-pub linked-none : (nodes t : List ℕ) (at : ℕ) → t ≡ linked nodes t at []
-unfolding linked
+pub linked-none : (nodes t : List ℕ) (at : ℕ) → t ≡ childrenPut nodes t at []
+unfolding childrenPut
 linked-none nodes t at = refl
 
 -- A number before those that were written, and one of them.
@@ -101,22 +101,22 @@ set-written t k (suc b) x (y ∷ row) h =
     ∙ set-written (set t k y) (suc k) b x row (omega arith)
 
 linked-written : (nodes t : List ℕ) (k n : ℕ) (row : List ℕ) (ks : List Child) → length row ≡ n → Every (λ c. c .bit < n) ks
-    → linked nodes (written t k row) k ks ≡ written t k (linked nodes row 0 ks)
-unfolding linked Every
+    → childrenPut nodes (written t k row) k ks ≡ written t k (childrenPut nodes row 0 ks)
+unfolding childrenPut Every
 linked-written nodes t k n row [] e h = refl
 linked-written nodes t k n row (c ∷ ks) e h =
     let b : c .bit < length row = omega (arith, h .0) in
     let z : 0 + c .bit ≡ c .bit = omega arith in
     rw z
-    (ap (λ u. linked nodes u k ks) (set-written t k (c .bit) (childNumber nodes c) row b)
+    (ap (λ u. childrenPut nodes u k ks) (set-written t k (c .bit) (childNumber nodes c) row b)
     ∙ linked-written nodes t k n (set row (c .bit) (childNumber nodes c)) ks (length-set row (c .bit) (childNumber nodes c) ∙ e) (h .1))
 
 -- A row is places without a child, and then the children.
 pub row-put : (nodes t : List ℕ) (k : ℕ) (i : NodeInstance) {w x : List ℕ} → Every (λ c. c .bit < 64) (i .children) → w ≡ written t k (childless 64)
-    → x ≡ linked nodes w k (i .children) → x ≡ written t k (childRow nodes i)
+    → x ≡ childrenPut nodes w k (i .children) → x ≡ written t k (childRow nodes i)
 unfolding childRow
 row-put nodes t k i b g h =
-    h ∙ ap (λ u. linked nodes u k (i .children)) g ∙ linked-written nodes t k 64 (childless 64) (i .children) (childless-length 64) b
+    h ∙ ap (λ u. childrenPut nodes u k (i .children)) g ∙ linked-written nodes t k 64 (childless 64) (i .children) (childless-length 64) b
 
 pub row-written : (nodes t : List ℕ) (k : ℕ) (i : NodeInstance) {u : List ℕ} → u ≡ written t k (childRow nodes i)
     → (u ≡ written t k (childRow nodes i)) × (k + 64 ≡ k + length (childRow nodes i))

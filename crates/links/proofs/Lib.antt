@@ -2,6 +2,5 @@
 pub mod RowLaws
 pub mod PassedLaws
 pub mod LinksLaws
-pub mod WritingLaws
 pub mod ChildrenLaws
 pub mod TableLaws

@@ -1,64 +1,34 @@
 -- What a table of children says of a bit of a node instance.
-use Prim.Native.Nat.{ℕ, zero, suc, _+_, _*_, _≤_, _<_}
+use Prim.Native.Nat.{ℕ, _+_, _*_, _≤_, _<_}
 use mathlib.Core.Bool.{true, false}
-use mathlib.Core.List.{List, [], _∷_, _++_, map, append-assoc}
-use mathlib.Core.Logic.{_⊎_, inl, inr, ⊎-elim}
+use mathlib.Core.List.{List, [], _∷_, _++_, map}
+use mathlib.Core.Logic.{_⊎_, ⊎-elim}
 use mathlib.Core.Option.{none, some}
 use mathlib.Core.Path.{_≡_, sym, _∙_, ap, subst}
 use native.Mathlib.Omega.{arith}
 use borrow.Author.Tests.{eqb-true, eqb-false, ne-eqb, lt-ltb, le-ltb}
 use lib.Dec.{eqb}
-use lib.ListN.{length, getD, set, length-set, length-append, getD-replicate, List·getD-append}
-use lib.Seq.{getD-append-add, getD-set-same, getD-set-other}
+use lib.ListN.{length, getD, set, length-set, getD-replicate}
+use lib.Seq.{getD-set-same, getD-set-other}
 use Rattle.numbers.proofs.Bools.{either}
 use Rattle.format.specs.Fields.{member}
 use Rattle.format.specs.Lookup.{position, at, gathered, NodeEntry}
 use Rattle.format.specs.Rules.{Every, Distinct}
 use Rattle.format.specs.Tree.{Child, NodeInstance}
 use Rattle.format.proofs.EveryLaws.{or-false-left, or-false-right}
-use Rattle.format.proofs.FaultsLaws.{at-none}
-use Rattle.format.proofs.PositionsLaws.{at-first, at-next, every-at}
+use Rattle.format.proofs.PositionsLaws.{at-empty, at-most, at-first, at-next, every-at}
+use Rattle.tables.proofs.ColumnLaws.{rows-place}
 use Rattle.tables.specs.Faults.{positionIn}
 use Rattle.walk.specs.TableGraph.{childAt}
-use Rattle.links.specs.Links.{childNumber, linked, childless, childRow, childIn, ChildrenFit}
+use Rattle.links.specs.Links.{childNumber, childrenPut, childless, childRow, childIn, ChildrenFit}
 use Rattle.links.proofs.ChildrenLaws.{childless-length, child-row-length}
 
--- What stands at a position, or nothing.
-
-at-empty : {A : Type 0} (i : ℕ) → _≡_ {A = List A} (at i []) []
-at-empty i = at-none i [] (omega arith)
-
-pub at-most : {A : Type 0} (i : ℕ) (xs : List A) → (at i xs ≡ []) ⊎ ((x : A) × (at i xs ≡ x ∷ []))
-at-most i [] = inl (at-empty i)
-at-most zero (x ∷ xs) = inr (x, at-first x xs)
-at-most (suc i) (x ∷ xs) = ⊎-elim (λ e. inl (at-next i x xs ∙ e)) (λ r. inr (r .0, at-next i x xs ∙ r .1)) (at-most i xs)
-
--- Rows of 64 numbers, one after another.
-module _ {A : Type 0} (f : A → List ℕ) (rows : (x : A) → length (f x) ≡ 64) (rest : List ℕ) where
-  pub rows-place : (xs : List A) (i : ℕ) {x : A} → at i xs ≡ x ∷ [] → (b : ℕ) → b < 64
-      → (getD (gathered f xs ++ rest) (i * 64 + b) 0 ≡ getD (f x) b 0) × (i * 64 + b < length (gathered f xs ++ rest))
-  unfolding gathered
-  rows-place [] i {x} e b h = let y : [] ≡ x ∷ [] = sym (at-empty i) ∙ e in let z : _≡_ {A = ℕ} 0 1 = cc in absurd (omega arith)
-  rows-place (y ∷ xs) zero {x} e b h =
-      let w : y ≡ x = let z : y ∷ [] ≡ x ∷ [] = sym (at-first y xs) ∙ e in cc in
-      let n : 0 * 64 + b ≡ b = omega arith in
-      let l : b < length (f y) = omega (arith, rows y) in
-      let g : getD ((f y ++ gathered f xs) ++ rest) b 0 ≡ getD (f x) b 0 =
-      ap (λ u. getD u b 0) (append-assoc (f y) (gathered f xs) rest) ∙ List·getD-append (f y) (gathered f xs ++ rest) 0 b l ∙ ap (λ u. getD (f u) b 0) w in
-      (rw n g, omega (arith, length-append (f y ++ gathered f xs) rest, length-append (f y) (gathered f xs), rows y))
-  rows-place (y ∷ xs) (suc i) {x} e b h =
-      let r = rows-place xs i (sym (at-next i y xs) ∙ e) b h in
-      let n : suc i * 64 + b ≡ length (f y) + (i * 64 + b) = omega (arith, rows y) in
-      let g : getD ((f y ++ gathered f xs) ++ rest) (length (f y) + (i * 64 + b)) 0 ≡ getD (f x) b 0 =
-      ap (λ u. getD u (length (f y) + (i * 64 + b)) 0) (append-assoc (f y) (gathered f xs) rest) ∙ getD-append-add (f y) (gathered f xs ++ rest) (i * 64 + b) 0 ∙ r .0 in
-      (rw n g, omega (arith, length-append (f y ++ gathered f xs) rest, length-append (f y) (gathered f xs), length-append (gathered f xs) rest, rows y, r .1))
-
 -- The child of a bit.
-abbrev forBit : ℕ → List Child → List Child
+abbrev pub forBit : ℕ → List Child → List Child
 forBit b ks = at (position (λ k. eqb (k .bit) b) ks) ks
 
 -- What a table holds for a child, if there is one.
-abbrev numberOr : List ℕ → ℕ → List Child → ℕ
+abbrev pub numberOr : List ℕ → ℕ → List Child → ℕ
 numberOr nodes x [] = x
 numberOr nodes x (k ∷ ks) = childNumber nodes k
 
@@ -78,8 +48,8 @@ for-bit-none b (k ∷ ks) e =
     for-bit-on b k ks (ne-eqb (k .bit) b (λ q. eqb-false b (k .bit) n (sym q))) ∙ for-bit-none b ks (or-false-right (eqb b (k .bit)) _ e)
 
 module _ (nodes : List ℕ) (b : ℕ) where
-  linked-child : (row : List ℕ) (ks : List Child) → b < length row → Distinct (map (λ k. k .bit) ks) → getD (linked nodes row 0 ks) b 0 ≡ numberOr nodes (getD row b 0) (forBit b ks)
-  unfolding linked Distinct
+  linked-child : (row : List ℕ) (ks : List Child) → b < length row → Distinct (map (λ k. k .bit) ks) → getD (childrenPut nodes row 0 ks) b 0 ≡ numberOr nodes (getD row b 0) (forBit b ks)
+  unfolding childrenPut Distinct
   linked-child row [] h d = sym (ap (numberOr nodes (getD row b 0)) (at-empty _))
   linked-child row (k ∷ ks) h d =
       let x = childNumber nodes k in
@@ -103,7 +73,7 @@ module _ (nodes : List ℕ) (b : ℕ) where
   unfolding childless
   childless-at n h = getD-replicate n b 0xFFFF 0 h
 
-  row-child : (i : NodeInstance) → b < 64 → Distinct (map (λ k. k .bit) (i .children)) → getD (childRow nodes i) b 0 ≡ numberOr nodes 0xFFFF (forBit b (i .children))
+  pub row-child : (i : NodeInstance) → b < 64 → Distinct (map (λ k. k .bit) (i .children)) → getD (childRow nodes i) b 0 ≡ numberOr nodes 0xFFFF (forBit b (i .children))
   unfolding childRow
   row-child i h d =
       linked-child (childless 64) (i .children) (let l : b < length (childless 64) = omega (arith, childless-length 64) in l) d

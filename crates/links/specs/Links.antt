@@ -20,9 +20,9 @@ unfoldable pub childNumber : List ℕ → Child → ℕ
 childNumber nodes k = positionIn nodes (k .id) (k .number) % 0x10000
 
 -- A table after some children were written to it, each at its bit counted from a place on.
-unfoldable pub linked : List ℕ → List ℕ → ℕ → List Child → List ℕ
-linked nodes table at [] = table
-linked nodes table at (k ∷ ks) = linked nodes (set table (at + k .bit) (childNumber nodes k)) at ks
+unfoldable pub childrenPut : List ℕ → List ℕ → ℕ → List Child → List ℕ
+childrenPut nodes table at [] = table
+childrenPut nodes table at (k ∷ ks) = childrenPut nodes (set table (at + k .bit) (childNumber nodes k)) at ks
 
 -- So many places without a child.
 unfoldable pub childless : ℕ → List ℕ
@@ -30,7 +30,7 @@ childless n = replicate n 0xFFFF
 
 -- The 64 places of a node instance in a table of children.
 unfoldable pub childRow : List ℕ → NodeInstance → List ℕ
-childRow nodes i = linked nodes (childless 64) 0 (i .children)
+childRow nodes i = childrenPut nodes (childless 64) 0 (i .children)
 
 -- What is kept of a child, with the place after it.
 abbrev pub linkOf : List ℕ → Child → ℕ → Link

@@ -10,7 +10,7 @@ use nodes::captures_at;
 use nodes::instance_head_at;
 use nodes::rules_at;
 use numbers::Width;
-use rules::name_position;
+use tables::name_position;
 use tables::put;
 ghost use Prim.Native.Nat.{ℕ, _<_};
 ghost use mathlib.Core.Bool.{true};
@@ -24,7 +24,7 @@ ghost use Rattle.format.specs.Rules.{Every};
 ghost use Rattle.format.specs.Tree.{Rule, Child, NodeInstance};
 ghost use Rattle.tables.specs.Tables.{written};
 ghost use Rattle.index.specs.Rows.{ReadAgain};
-ghost use Rattle.links.specs.Links.{rulePlace, linked, childless, childRow, linkOf};
+ghost use Rattle.links.specs.Links.{rulePlace, childrenPut, childless, childRow, linkOf};
 
 // A child: its bit, the number that a table holds for it, and the place after it.
 struct Link {
@@ -67,7 +67,9 @@ fn find_rule(s: &[u8], at: usize, n: u8, attention: u8) -> usize
 
 // The place of the expression of a node instance's rule for an attention type; 0 where it has none.
 pub fn rule_place(s: &[u8], at: usize, attention: u8) -> usize
-    ensures { λ r. ⌜ ((total : ℕ) (before : List NodeInstance) (i : NodeInstance) (m : ℕ) → nodeInstanceAt (now (s .entry)) true total before at ≡ done i m → r ≡ rulePlace attention (i .rules)) ⌝ }
+    ensures { λ r. ⌜ ((total : ℕ) (before : List NodeInstance) (i : NodeInstance) (m : ℕ)
+        → nodeInstanceAt (now (s .entry)) true total before at ≡ done i m
+        → r ≡ rulePlace attention (i .rules)) ⌝ }
 {
     let none = [0u8; 1];
     let top = instance_head_at(s, at, 0, &none);
@@ -87,7 +89,10 @@ pub fn rule_place(s: &[u8], at: usize, attention: u8) -> usize
 // The place of each node instance's rule for an attention type, from the front of `rules` on; `places` are the places of the instances. It reads the captures and
 // the rules of each instance once.
 pub fn fill_rules(s: &[u8], places: &[u64], attention: u8, rules: &mut [u64])
-    ensures { λ r. ⌜ ((es : List NodeEntry) → Every (ReadAgain (now (s .entry))) es → now (places .entry) ≡ map (λ e. e .instance .place) es → now (rules .exit) ≡ written (now (rules .entry)) 0 (map (λ e. rulePlace attention (e .instance .rules)) es)) ⌝ }
+    ensures { λ r. ⌜ ((es : List NodeEntry)
+        → Every (ReadAgain (now (s .entry))) es
+        → now (places .entry) ≡ map (λ e. e .instance .place) es
+        → now (rules .exit) ≡ written (now (rules .entry)) 0 (map (λ e. rulePlace attention (e .instance .rules)) es)) ⌝ }
 {
     let mut i = 0;
     while i < places.len() {
@@ -108,7 +113,9 @@ fn put_child(table: &mut [u16], k: usize, x: u16)
 
 // A child that was read before; `nodes` are the keys of the node instances.
 fn link_at(s: &[u8], at: usize, nodes: &[u64]) -> Link
-    ensures { λ r. ⌜ ((before : List Child) (k : Child) (m : ℕ) → childAt (now (s .entry)) true before at ≡ done k m → r ≡ linkOf (now (nodes .entry)) k m) ⌝ }
+    ensures { λ r. ⌜ ((before : List Child) (k : Child) (m : ℕ)
+        → childAt (now (s .entry)) true before at ≡ done k m
+        → r ≡ linkOf (now (nodes .entry)) k m) ⌝ }
 {
     let b = byte_at(s, at);
     match b {
@@ -165,7 +172,9 @@ fn clear(child: &mut [u16], k: usize, n: u8)
 // So many children that were read before, each at its bit counted from place k on. It looks each up once.
 fn put_children(s: &[u8], at: usize, n: u8, nodes: &[u64], child: &mut [u16], k: usize)
     requires { ⌜ k < length (now child) ⌝ }
-    ensures { λ r. ⌜ ((ks : List Child) (m : ℕ) → rowAt (childAt (now (s .entry)) true) n [] at ≡ done ks m → now (child .exit) ≡ linked (now (nodes .entry)) (now (child .entry)) k ks) ⌝ }
+    ensures { λ r. ⌜ ((ks : List Child) (m : ℕ)
+        → rowAt (childAt (now (s .entry)) true) n [] at ≡ done ks m
+        → now (child .exit) ≡ childrenPut (now (nodes .entry)) (now (child .entry)) k ks) ⌝ }
 {
     let mut left = n;
     let mut place = at;
@@ -180,7 +189,9 @@ fn put_children(s: &[u8], at: usize, n: u8, nodes: &[u64], child: &mut [u16], k:
 // The 64 places of a node instance that was read before, from place k on.
 fn put_row(s: &[u8], at: usize, nodes: &[u64], child: &mut [u16], k: usize)
     requires { ⌜ k < length (now child) ⌝ }
-    ensures { λ r. ⌜ ((total : ℕ) (before : List NodeInstance) (i : NodeInstance) (m : ℕ) → nodeInstanceAt (now (s .entry)) true total before at ≡ done i m → now (child .exit) ≡ written (now (child .entry)) k (childRow (now (nodes .entry)) i)) ⌝ }
+    ensures { λ r. ⌜ ((total : ℕ) (before : List NodeInstance) (i : NodeInstance) (m : ℕ)
+        → nodeInstanceAt (now (s .entry)) true total before at ≡ done i m
+        → now (child .exit) ≡ written (now (child .entry)) k (childRow (now (nodes .entry)) i)) ⌝ }
 {
     let none = [0u8; 1];
     let top = instance_head_at(s, at, 0, &none);
@@ -210,7 +221,10 @@ fn put_row(s: &[u8], at: usize, nodes: &[u64], child: &mut [u16], k: usize)
 // The children of each node instance, 64 places for each, from the front of `child` on; `places` are the places of the instances, and `nodes` their keys. It reads
 // each instance once, and looks up each child once.
 pub fn fill_children(s: &[u8], places: &[u64], nodes: &[u64], child: &mut [u16])
-    ensures { λ r. ⌜ ((es : List NodeEntry) → Every (ReadAgain (now (s .entry))) es → now (places .entry) ≡ map (λ e. e .instance .place) es → now (child .exit) ≡ written (now (child .entry)) 0 (gathered (λ e. childRow (now (nodes .entry)) (e .instance)) es)) ⌝ }
+    ensures { λ r. ⌜ ((es : List NodeEntry)
+        → Every (ReadAgain (now (s .entry))) es
+        → now (places .entry) ≡ map (λ e. e .instance .place) es
+        → now (child .exit) ≡ written (now (child .entry)) 0 (gathered (λ e. childRow (now (nodes .entry)) (e .instance)) es)) ⌝ }
 {
     let mut i = 0;
     let mut k = 0;

@@ -6,16 +6,16 @@ use mathlib.Core.Option.{Option, none, some}
 use Prim.Native.Nat.{ℕ, zero, suc, _+_, _*_, _/_, _%_, _≤_, _<_}
 use native.Mathlib.Omega.{arith}
 use native.Mathlib.Numerals.{add-one}
-use lib.Dec.{leb, ltb}
-use lib.ListN.{length, getD, set, take, drop, length-append, length-map}
+use lib.Dec.{eqb, leb, ltb}
+use lib.ListN.{length, getD, set, take, drop, length-append, length-map, List·getD-eq-default}
 use lib.Seq.{sets-eq}
-use borrow.Author.Tests.{eq-eqb, ne-eqb, lt-ltb, le-leb, lt-leb}
+use borrow.Author.Tests.{lt-ltb, le-leb, lt-leb}
 use Rattle.numbers.specs.Bits.{bitOf}
 use Rattle.numbers.specs.BigEndian.{bytesOf}
 use Rattle.graph.specs.Chains.{Graph, Link, bare, below, kept}
 use Rattle.format.specs.Lookup.{gathered}
 use Rattle.format.proofs.GatheredLaws.{gathered-append, gathered-one}
-use Rattle.walk.specs.TableGraph.{sizeOf, childAt, tableGraph}
+use Rattle.walk.specs.TableGraph.{tableSize, childAt, tableGraph}
 use Rattle.walk.specs.Fold.{orElse}
 use Rattle.walk.proofs.Tables.{child-in}
 use Rattle.listing.specs.Records.{recordOf}
@@ -23,8 +23,8 @@ use Rattle.listing.specs.Rows.{shown, bitsTo, isDone, rowLinks, rowsTo}
 
 -- One bit
 
-module _ (act ch : List ℕ) (n i b : ℕ) (size : n ≡ sizeOf act) (h : i < n) (b64 : b < 64) where
-  i-in : ltb i (sizeOf act) ≡ true
+module _ (act ch : List ℕ) (n i b : ℕ) (size : n ≡ tableSize act) (h : i < n) (b64 : b < 64) where
+  i-in : ltb i (tableSize act) ≡ true
   i-in = rw (← size) (lt-ltb i n h)
 
   pub shown-off : bitOf 64 (getD act i 0) b ≡ false → false ≡ shown (tableGraph act ch) i b
@@ -40,6 +40,16 @@ module _ (act ch : List ℕ) (n i b : ℕ) (size : n ≡ sizeOf act) (h : i < n)
   shown-on e d =
       simp (i-in, e, lt-ltb b 64 b64)
       (bare-is _ d (child-in n ch (i * 64 + b)) ∙ ap (λ x. bare (childAt x ch (i * 64 + b))) size)
+
+-- A mark and a key that a table may not have
+
+pub done-none : (marks : List ℕ) (i : ℕ) → length marks ≤ i → false ≡ isDone marks i
+unfolding isDone
+done-none marks i h = rw (List·getD-eq-default marks 0 h)
+
+pub done-there : (marks : List ℕ) (i : ℕ) → eqb (getD marks i 0) 2 ≡ isDone marks i
+unfolding isDone
+done-there marks i = refl
 
 -- One bit more, and one node instance more
 
@@ -94,13 +104,13 @@ module _ (g : Graph) where
   bits-few i n = omega (arith, kept-few (shown g i) (below n), below-length n)
 
   module _ (marks : List ℕ) where
-    pub row-done : (i : ℕ) {c : ℕ} → getD marks i 0 ≡ 2 → c ≡ length (bitsTo g i 64) → c ≡ length (rowLinks g marks i)
-    unfolding rowLinks isDone
-    row-done i e d = rw (eq-eqb _ 2 e, length-map) d
+    pub row-done : (i : ℕ) {t : Bool} {c : ℕ} → t ≡ isDone marks i → t ≡ true → c ≡ length (bitsTo g i 64) → c ≡ length (rowLinks g marks i)
+    unfolding rowLinks
+    row-done i e d q = rw (sym e ∙ d, length-map) q
 
-    pub row-not : (i : ℕ) → (getD marks i 0 ≡ 2 → ⊥) → 0 ≡ length (rowLinks g marks i)
-    unfolding rowLinks isDone
-    row-not i e = rw (ne-eqb _ 2 e)
+    pub row-not : (i : ℕ) {t : Bool} → t ≡ isDone marks i → t ≡ false → 0 ≡ length (rowLinks g marks i)
+    unfolding rowLinks
+    row-not i e d = rw (sym e ∙ d)
 
     pub row-few : (i : ℕ) → length (rowLinks g marks i) ≤ 64
     unfolding rowLinks

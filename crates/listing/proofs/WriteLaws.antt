@@ -6,17 +6,17 @@ use Prim.Native.Nat.{ℕ, zero, suc, _+_, _-_, _*_, _/_, _%_, _≤_, _<_}
 use native.Mathlib.Nat.{add-zero, zero-add}
 use native.Mathlib.Numerals.{add-one}
 use native.Mathlib.Omega.{arith}
-use borrow.Author.Tests.{eq-eqb, ne-eqb, le-leb, lt-leb}
+use borrow.Author.Tests.{le-leb, lt-leb}
 use lib.ListN.{length, getD, take, drop, length-map, length-append, length-take, take-append-drop}
 use lib.Seq.{take-at, drop-append-add, drop-drop}
 use Rattle.numbers.proofs.BigEndianLaws.{length-bytes}
 use Rattle.graph.specs.Chains.{Graph, Link, below, kept}
 use Rattle.format.specs.Lookup.{gathered}
-use Rattle.walk.specs.TableGraph.{sizeOf, tableGraph}
+use Rattle.walk.specs.TableGraph.{tableSize, tableGraph}
 use Rattle.listing.specs.declared.Listing
 use Rattle.listing.specs.declared.Listing.{Listing}
 use Rattle.listing.specs.Records.{recordOf, recordSize}
-use Rattle.listing.specs.Rows.{shown, bitsTo, isDone, rowLinks, rowsTo, bitRecords, keyId, keyNumber, rowRecords, rowsRecords, Wrote, roomFor, holds, listingOf}
+use Rattle.listing.specs.Rows.{shown, bitsTo, isDone, rowLinks, rowsTo, bitRecords, keyId, keyNumber, rowRecords, rowsRecords, Wrote, listingValues, hasRoom, roomFor, tableLinks, tableRecords, listAfter}
 use Rattle.format.proofs.GatheredLaws.{gathered-append, gathered-one}
 use Rattle.listing.proofs.RowsLaws.{bits-more, row-done, rows-none, rows-more}
 
@@ -107,20 +107,20 @@ module _ (g : Graph) (attention id number i : ℕ) where
 
 module _ (attention : ℕ) (keys : List ℕ) (g : Graph) (marks : List ℕ) where
   -- One node instance.
-  pub row-wrote : (i : ℕ) {old new : List ℕ} {at next : ℕ} → getD marks i 0 ≡ 2
-      → Wrote old new at next (bitRecords attention (getD keys i 0 / 256 % 65536) (getD keys i 0 % 256) (bitsTo g i 64))
+  pub row-wrote : (i : ℕ) {t : Bool} {key : ℕ} {old new : List ℕ} {at next : ℕ} → t ≡ isDone marks i → t ≡ true → key ≡ getD keys i 0
+      → Wrote old new at next (bitRecords attention (key / 256 % 65536) (key % 256) (bitsTo g i 64))
       → Wrote old new at next (rowRecords attention keys g marks i)
-  unfolding rowRecords isDone keyId keyNumber
-  row-wrote i e w = rw (eq-eqb _ 2 e) w
+  unfolding rowRecords keyId keyNumber
+  row-wrote i e d k w = rw (sym e ∙ d, ← k) w
 
-  pub row-kept : (i : ℕ) {old : List ℕ} {at : ℕ} → (getD marks i 0 ≡ 2 → ⊥) → Wrote old old at at (rowRecords attention keys g marks i)
-  unfolding rowRecords isDone
-  row-kept i {old} {at} e = rw (ne-eqb _ 2 e) (wrote-none old at)
+  pub row-kept : (i : ℕ) {t : Bool} {old : List ℕ} {at : ℕ} → t ≡ isDone marks i → t ≡ false → Wrote old old at at (rowRecords attention keys g marks i)
+  unfolding rowRecords
+  row-kept i {old = old} {at = at} e d = rw (sym e ∙ d) (wrote-none old at)
 
   -- A done node instance has as many links as bits that are shown.
-  pub row-room : (i : ℕ) (list : List ℕ) (at : ℕ) → getD marks i 0 ≡ 2 → at + 8 * length (rowLinks g marks i) ≤ length list
+  pub row-room : (i : ℕ) (list : List ℕ) (at : ℕ) {t : Bool} → t ≡ isDone marks i → t ≡ true → at + 8 * length (rowLinks g marks i) ≤ length list
       → at + 8 * length (bitsTo g i 64) ≤ length list
-  row-room i list at e h = omega (arith, row-done g marks i e refl)
+  row-room i list at e d h = omega (arith, row-done g marks i e d refl)
 
   -- Node instance after node instance.
   pub rows-started : {old : List ℕ} → Wrote old old 0 0 (rowsRecords attention keys g marks 0)
@@ -182,30 +182,30 @@ module _ (attention : ℕ) (keys : List ℕ) (g : Graph) (marks : List ℕ) wher
       let m : length (rowsTo g marks (i + 1)) ≤ length (rowsTo g marks n) = rw e at (rows-mono (i + 1) (n - 1 - i)) in
       omega (arith, m, w .ends, rows-length i, ap length (rows-more g marks i), length-append (rowsTo g marks i) (rowLinks g marks i))
 
+-- What was written from the front on.
+written-front : {old new bs : List ℕ} {next : ℕ} → Wrote old new 0 next bs → new ≡ bs ++ drop (length bs) old
+written-front {old} {new} {bs} w = w .content ∙ ap (λ q. bs ++ drop q old) (let e : _ ≡ length bs = w .ends ∙ zero-add (length bs) in e)
+
 -- Room
 
-module _ (keys marks act ch : List ℕ) (n bytes : ℕ) (size : n ≡ sizeOf act) where
-  pub unfit-marks : length marks < n → Listing.Unfit ≡ listingOf keys marks act ch bytes
-  unfolding listingOf holds
-  unfit-marks h = rw (← size, lt-leb _ _ h)
+module _ (marks act ch : List ℕ) (n : ℕ) (size : n ≡ tableSize act) {c : ℕ} (e : c ≡ length (rowsTo (tableGraph act ch) marks n)) where
+  links-are : c ≡ length (tableLinks marks act ch)
+  unfolding tableLinks
+  links-are = rw (← size) e
 
-  pub unfit-keys : n ≤ length marks → length keys < n → Listing.Unfit ≡ listingOf keys marks act ch bytes
-  unfolding listingOf holds
-  unfit-keys m h = rw (← size, le-leb _ _ m, lt-leb _ _ h)
+  pub room-yes : (bytes : ℕ) → c ≤ bytes / 8 → listingValues (Listing.Written c) ≡ roomFor (length (tableLinks marks act ch)) bytes
+  unfolding roomFor hasRoom recordSize
+  room-yes bytes h = rw (← links-are, le-leb _ _ h)
 
-  module _ (m : n ≤ length marks) (k : n ≤ length keys) {c : ℕ} (e : c ≡ length (rowsTo (tableGraph act ch) marks n)) where
-    pub room-is : listingOf keys marks act ch bytes ≡ roomFor c bytes
-    unfolding listingOf holds
-    room-is = rw (← size, le-leb _ _ m, le-leb _ _ k, e)
+  pub room-no : (bytes : ℕ) → bytes / 8 < c → listingValues (Listing.NoRoom c) ≡ roomFor (length (tableLinks marks act ch)) bytes
+  unfolding roomFor hasRoom recordSize
+  room-no bytes h = rw (← links-are, lt-leb _ _ h)
 
-    pub room-yes : c ≤ bytes / 8 → Listing.Written c ≡ listingOf keys marks act ch bytes
-    unfolding roomFor recordSize
-    room-yes h = sym (room-is ∙ rw (le-leb _ _ h))
+  pub list-written : (attention : ℕ) (keys : List ℕ) {list new : List ℕ} {next : ℕ} → c ≤ length list / 8 → Wrote list new 0 next (rowsRecords attention keys (tableGraph act ch) marks n)
+      → new ≡ listAfter attention keys marks act ch list
+  unfolding listAfter hasRoom recordSize tableRecords
+  list-written attention keys h w = rw (← links-are, le-leb _ _ h, ← size) (written-front w)
 
-    pub room-no : bytes / 8 < c → Listing.NoRoom c ≡ listingOf keys marks act ch bytes
-    unfolding roomFor recordSize
-    room-no h = sym (room-is ∙ rw (lt-leb _ _ h))
-
--- What was written from the front on.
-pub written-front : {old new bs : List ℕ} {next : ℕ} → Wrote old new 0 next bs → new ≡ bs ++ drop (length bs) old
-written-front {old} {new} {bs} w = w .content ∙ ap (λ q. bs ++ drop q old) (let e : _ ≡ length bs = w .ends ∙ zero-add (length bs) in e)
+  pub list-kept : (attention : ℕ) (keys list : List ℕ) → length list / 8 < c → list ≡ listAfter attention keys marks act ch list
+  unfolding listAfter hasRoom recordSize
+  list-kept attention keys list h = rw (← links-are, lt-leb _ _ h)

@@ -7,7 +7,7 @@ use lib.Dec.{eqb, leb}
 use lib.ListN.{length, getD, take, drop}
 use Rattle.graph.specs.Chains.{Graph, Link, bare, below, kept}
 use Rattle.format.specs.Lookup.{gathered}
-use Rattle.walk.specs.TableGraph.{sizeOf, tableGraph}
+use Rattle.walk.specs.TableGraph.{tableSize, tableGraph}
 use Rattle.listing.specs.declared.Listing
 use Rattle.listing.specs.declared.Listing.{Listing}
 use Rattle.listing.specs.Records.{recordOf, recordSize}
@@ -58,23 +58,41 @@ pub record Wrote (old new : List ℕ) (at next : ℕ) (bs : List ℕ) : Type 0 w
   pub ends : next ≡ at + length bs
   pub same : length new ≡ length old
 
--- What is answered of so many records and a list of so many bytes.
-unfoldable pub roomFor : ℕ → ℕ → Listing
-roomFor count bytes = cond (leb count (bytes / recordSize)) (Listing.Written count) (Listing.NoRoom count)
+-- The answer in the paper's numbers: number 0 is success, with how many records were written; a refusal has its number and place, and zero records.
+pub record ListingValues : Type 0 where
+  pub number : ℕ
+  pub place : ℕ
+  pub records : ℕ
 
--- A table has a place for each of n node instances.
-unfoldable pub holds : ℕ → List ℕ → Bool
-holds n table = leb n (length table)
+abbrev pub writtenWith : ℕ → ListingValues
+writtenWith count = record { number = 0; place = 0; records = count }
 
--- What is answered of tables and a list of so many bytes.
-unfoldable pub listingOf : List ℕ → List ℕ → List ℕ → List ℕ → ℕ → Listing
-listingOf keys marks act ch bytes =
-    cond (holds (sizeOf act) marks && holds (sizeOf act) keys)
-    (roomFor (length (rowsTo (tableGraph act ch) marks (sizeOf act))) bytes)
-    Listing.Unfit
+abbrev pub refusedWith : ℕ → ℕ → ListingValues
+refusedWith n p = record { number = n; place = p; records = 0 }
 
--- The list after that: the records and then its own bytes, or its own bytes.
-abbrev pub listAfter : Listing → List ℕ → List ℕ → List ℕ
-listAfter (Listing.Written count) records list = records ++ drop (length records) list
-listAfter (Listing.NoRoom count) records list = list
-listAfter Listing.Unfit records list = list
+abbrev pub listingValues : Listing → ListingValues
+listingValues (Listing.Written count) = writtenWith count
+listingValues (Listing.NoRoom count) = refusedWith 19 count
+
+-- A list of so many bytes has "a whole record's place" for each of so many records.
+unfoldable pub hasRoom : ℕ → ℕ → Bool
+hasRoom count bytes = leb count (bytes / recordSize)
+
+-- What is answered of so many records: 19 is "more records than whole 8-byte places in the list", and its place is the "records needed".
+unfoldable pub roomFor : ℕ → ℕ → ListingValues
+roomFor count bytes = cond (hasRoom count bytes) (writtenWith count) (refusedWith 19 count)
+
+-- The links of two tables' node instances that a table of marks has as done. One without a mark is not done.
+unfoldable pub tableLinks : List ℕ → List ℕ → List ℕ → List Link
+tableLinks marks act ch = rowsTo (tableGraph act ch) marks (tableSize act)
+
+-- Their records. A node instance without a key has the key 0.
+unfoldable pub tableRecords : ℕ → List ℕ → List ℕ → List ℕ → List ℕ → List ℕ
+tableRecords attention keys marks act ch = rowsRecords attention keys (tableGraph act ch) marks (tableSize act)
+
+-- The list after the call: "its first places are their records and every byte after those is as it was lent"; a refusal keeps every byte.
+unfoldable pub listAfter : ℕ → List ℕ → List ℕ → List ℕ → List ℕ → List ℕ → List ℕ
+listAfter attention keys marks act ch list =
+    cond (hasRoom (length (tableLinks marks act ch)) (length list))
+    (tableRecords attention keys marks act ch ++ drop (length (tableRecords attention keys marks act ch)) list)
+    list

@@ -2,22 +2,41 @@
 ghost use mathlib.Core.Path.{_≡_};
 ghost use mathlib.Core.List.{[], _∷_, _++_};
 ghost use Prim.Native.Nat.{_+_, _*_, _<_, _≤_};
-ghost use lib.ListN.{length, take, drop};
+ghost use lib.ListN.{length, getD, take, drop};
 ghost use Rattle.graph.specs.Chains.{kept};
-ghost use Rattle.walk.specs.TableGraph.{sizeOf, tableGraph};
-ghost use Rattle.listing.specs.Rows.{shown, bitsTo, rowLinks, rowsTo, bitRecords, rowRecords, rowsRecords, Wrote, listingOf, listAfter};
+ghost use Rattle.walk.specs.TableGraph.{tableSize, tableGraph};
+ghost use Rattle.listing.specs.Rows.{shown, bitsTo, isDone, rowLinks, rowsTo, bitRecords, rowRecords, rowsRecords, Wrote, listingValues, roomFor, tableLinks, listAfter};
 ghost use Rattle.listing.specs.Records.{recordOf};
 
-// How many records were written; or how many there is no room for; or that a table has no place for some node instance.
+// How many records were written; or how many there is no room for.
 pub enum Listing {
     Written(usize),
     NoRoom(usize),
-    Unfit,
+}
+
+// Whether the instance i is done. One that the table has no mark for is not.
+fn is_done(marks: &[u8], i: usize) -> bool
+    ensures { λ r. ⌜ r ≡ isDone (now (marks .entry)) i ⌝ }
+{
+    if marks.len() <= i {
+        return false;
+    }
+    marks[i] == 2
+}
+
+// The key of the instance i: 0 where the table has none.
+fn key_at(keys: &[u64], i: usize) -> u64
+    ensures { λ r. ⌜ r ≡ getD (now (keys .entry)) i 0 ⌝ }
+{
+    if keys.len() <= i {
+        return 0;
+    }
+    keys[i]
 }
 
 // Whether bit b of the instance i is active and has no child.
 fn is_shown(active: &[u64], child: &[u16], n: usize, i: usize, b: u8) -> bool
-    requires { ⌜ (n ≡ sizeOf (now active)) × (i < n) × (b < 64) ⌝ }
+    requires { ⌜ (n ≡ tableSize (now active)) × (i < n) × (b < 64) ⌝ }
     ensures { λ r. ⌜ r ≡ shown (tableGraph (now (active .entry)) (now (child .entry))) i b ⌝ }
 {
     if !numbers::bit(active[i], b) {
@@ -28,7 +47,7 @@ fn is_shown(active: &[u64], child: &[u16], n: usize, i: usize, b: u8) -> bool
 
 // 1 where bit b of the instance i is shown, otherwise 0.
 fn count_bit(active: &[u64], child: &[u16], n: usize, i: usize, b: u8) -> usize
-    requires { ⌜ (n ≡ sizeOf (now active)) × (i < n) × (b < 64) ⌝ }
+    requires { ⌜ (n ≡ tableSize (now active)) × (i < n) × (b < 64) ⌝ }
     ensures { λ r. ⌜ r ≡ length (kept (shown (tableGraph (now (active .entry)) (now (child .entry))) i) (b ∷ [])) ⌝ }
 {
     if is_shown(active, child, n, i, b) {
@@ -39,7 +58,7 @@ fn count_bit(active: &[u64], child: &[u16], n: usize, i: usize, b: u8) -> usize
 
 // How many bits of the instance i are shown. It looks at each of its 64 bits once.
 fn count_bits(active: &[u64], child: &[u16], n: usize, i: usize) -> usize
-    requires { ⌜ (n ≡ sizeOf (now active)) × (i < n) ⌝ }
+    requires { ⌜ (n ≡ tableSize (now active)) × (i < n) ⌝ }
     ensures { λ r. ⌜ r ≡ length (bitsTo (tableGraph (now (active .entry)) (now (child .entry))) i 64) ⌝ }
 {
     let mut count = 0;
@@ -53,10 +72,10 @@ fn count_bits(active: &[u64], child: &[u16], n: usize, i: usize) -> usize
 
 // How many links the instance i has in the list: none unless it is done.
 fn count_row(marks: &[u8], active: &[u64], child: &[u16], n: usize, i: usize) -> usize
-    requires { ⌜ (n ≡ sizeOf (now active)) × (i < n) × (n ≤ length (now marks)) ⌝ }
+    requires { ⌜ (n ≡ tableSize (now active)) × (i < n) ⌝ }
     ensures { λ r. ⌜ r ≡ length (rowLinks (tableGraph (now (active .entry)) (now (child .entry))) (now (marks .entry)) i) ⌝ }
 {
-    if marks[i] == 2 {
+    if is_done(marks, i) {
         return count_bits(active, child, n, i);
     }
     0
@@ -64,7 +83,7 @@ fn count_row(marks: &[u8], active: &[u64], child: &[u16], n: usize, i: usize) ->
 
 // How many links the list has. It looks at each instance once.
 fn count_rows(marks: &[u8], active: &[u64], child: &[u16], n: usize) -> usize
-    requires { ⌜ (n ≡ sizeOf (now active)) × (n ≤ length (now marks)) ⌝ }
+    requires { ⌜ n ≡ tableSize (now active) ⌝ }
     ensures { λ r. ⌜ r ≡ length (rowsTo (tableGraph (now (active .entry)) (now (child .entry))) (now (marks .entry)) n) ⌝ }
 {
     let mut count = 0;
@@ -104,7 +123,7 @@ fn put_bit(
     i: usize,
     b: u8,
 ) -> usize
-    requires { ⌜ (n ≡ sizeOf (now active)) × (i < n) × (b < 64) ⌝ }
+    requires { ⌜ (n ≡ tableSize (now active)) × (i < n) × (b < 64) ⌝ }
     requires { ⌜ at + 8 * length (kept (shown (tableGraph (now active) (now child)) i) (b ∷ [])) ≤ length (now list) ⌝ }
     ensures { λ r. ⌜ Wrote (now (list .entry)) (now (list .exit)) at r (bitRecords attention id number (kept (shown (tableGraph (now (active .entry)) (now (child .entry))) i) (b ∷ []))) ⌝ }
 {
@@ -127,7 +146,7 @@ fn put_bits(
     n: usize,
     i: usize,
 ) -> usize
-    requires { ⌜ (n ≡ sizeOf (now active)) × (i < n) ⌝ }
+    requires { ⌜ (n ≡ tableSize (now active)) × (i < n) ⌝ }
     requires { ⌜ at + 8 * length (bitsTo (tableGraph (now active) (now child)) i 64) ≤ length (now list) ⌝ }
     ensures { λ r. ⌜ Wrote (now (list .entry)) (now (list .exit)) at r (bitRecords attention id number (bitsTo (tableGraph (now (active .entry)) (now (child .entry))) i 64)) ⌝ }
 {
@@ -152,12 +171,12 @@ fn put_row(
     n: usize,
     i: usize,
 ) -> usize
-    requires { ⌜ (n ≡ sizeOf (now active)) × (i < n) × (n ≤ length (now marks)) × (n ≤ length (now keys)) ⌝ }
+    requires { ⌜ (n ≡ tableSize (now active)) × (i < n) ⌝ }
     requires { ⌜ at + 8 * length (rowLinks (tableGraph (now active) (now child)) (now marks) i) ≤ length (now list) ⌝ }
     ensures { λ r. ⌜ Wrote (now (list .entry)) (now (list .exit)) at r (rowRecords attention (now (keys .entry)) (tableGraph (now (active .entry)) (now (child .entry))) (now (marks .entry)) i) ⌝ }
 {
-    if marks[i] == 2 {
-        let key = keys[i];
+    if is_done(marks, i) {
+        let key = key_at(keys, i);
         return put_bits(
             list,
             at,
@@ -183,7 +202,7 @@ fn put_rows(
     child: &[u16],
     n: usize,
 ) -> usize
-    requires { ⌜ (n ≡ sizeOf (now active)) × (n ≤ length (now marks)) × (n ≤ length (now keys)) ⌝ }
+    requires { ⌜ n ≡ tableSize (now active) ⌝ }
     requires { ⌜ 8 * length (rowsTo (tableGraph (now active) (now child)) (now marks) n) ≤ length (now list) ⌝ }
     ensures { λ r. ⌜ Wrote (now (list .entry)) (now (list .exit)) 0 r (rowsRecords attention (now (keys .entry)) (tableGraph (now (active .entry)) (now (child .entry))) (now (marks .entry)) n) ⌝ }
 {
@@ -205,16 +224,12 @@ pub fn write_list(
     active: &[u64],
     child: &[u16],
 ) -> Listing
-    ensures { λ r. ⌜ r ≡ listingOf (now (keys .entry)) (now (marks .entry)) (now (active .entry)) (now (child .entry)) (length (now (list .entry))) ⌝ }
-    ensures { λ r. ⌜ now (list .exit) ≡ listAfter r (rowsRecords attention (now (keys .entry)) (tableGraph (now (active .entry)) (now (child .entry))) (now (marks .entry)) (sizeOf (now (active .entry)))) (now (list .entry)) ⌝ }
+    ensures { λ r. ⌜ listingValues r
+        ≡ roomFor (length (tableLinks (now (marks .entry)) (now (active .entry)) (now (child .entry)))) (length (now (list .entry))) ⌝ }
+    ensures { λ r. ⌜ now (list .exit)
+        ≡ listAfter attention (now (keys .entry)) (now (marks .entry)) (now (active .entry)) (now (child .entry)) (now (list .entry)) ⌝ }
 {
     let n = walk::size(active);
-    if marks.len() < n {
-        return Listing::Unfit;
-    }
-    if keys.len() < n {
-        return Listing::Unfit;
-    }
     let count = count_rows(marks, active, child, n);
     if list.len() / 8 < count {
         return Listing::NoRoom(count);

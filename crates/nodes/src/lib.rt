@@ -100,7 +100,9 @@ pub fn captures_at(s: &[u8], at: usize, n: u8) -> NextRead
 
 // A rule: its attention type. `seen` marks the attention types of the rules before it.
 fn rule_at(s: &[u8], at: usize, seen: &[u8]) -> ByteRead
-    ensures { λ r. ⌜ ((before : List Rule) → Tells (unmarked (now (seen .entry))) (map ruleAttention before) → byteParsed r ≡ making ruleAttention (ruleAt (now (s .entry)) true before at)) ⌝ }
+    ensures { λ r. ⌜ ((before : List Rule)
+        → Tells (unmarked (now (seen .entry))) (map ruleAttention before)
+        → byteParsed r ≡ making ruleAttention (ruleAt (now (s .entry)) true before at)) ⌝ }
 {
     let b = new_attention_at(s, at, seen);
     match b {
@@ -165,7 +167,9 @@ fn child_bit_at(s: &[u8], at: usize, seen: &[u8]) -> ByteRead
 
 // A child: its bit position. `seen` marks the bits of the children before it.
 fn child_at(s: &[u8], at: usize, seen: &[u8]) -> ByteRead
-    ensures { λ r. ⌜ ((before : List Child) → Tells (unmarked (now (seen .entry))) (map childBit before) → byteParsed r ≡ making childBit (childAt (now (s .entry)) true before at)) ⌝ }
+    ensures { λ r. ⌜ ((before : List Child)
+        → Tells (unmarked (now (seen .entry))) (map childBit before)
+        → byteParsed r ≡ making childBit (childAt (now (s .entry)) true before at)) ⌝ }
 {
     let b = child_bit_at(s, at, seen);
     match b {
@@ -236,7 +240,9 @@ fn counts_at(s: &[u8], at: usize, number: u8, captures: u8) -> InstanceHeadRead
 
 // What a node instance starts with. `seen` marks the numbers before it in the node, and `begun` instances stand before it in the file.
 pub fn instance_head_at(s: &[u8], at: usize, begun: usize, seen: &[u8]) -> InstanceHeadRead
-    ensures { λ r. ⌜ ((numbers : List ℕ) → Tells (unmarked (now (seen .entry))) numbers → instanceHeadParsed r ≡ instanceHeadAt (now (s .entry)) true begun numbers at) ⌝ }
+    ensures { λ r. ⌜ ((numbers : List ℕ)
+        → Tells (unmarked (now (seen .entry))) numbers
+        → instanceHeadParsed r ≡ instanceHeadAt (now (s .entry)) true begun numbers at) ⌝ }
 {
     let b = instance_number_at(s, at, begun, format::NODE_LIMIT, seen);
     match b {
@@ -270,7 +276,10 @@ fn node_body_at(s: &[u8], at: usize, h: InstanceHead) -> NextRead
 
 // A node instance: its number. `seen` marks the numbers before it in the node, and `begun` instances stand before it in the file.
 pub fn node_instance_at(s: &[u8], at: usize, begun: usize, seen: &[u8]) -> ByteRead
-    ensures { λ r. ⌜ ((total : ℕ) (before : List NodeInstance) → Tells (unmarked (now (seen .entry))) (map nodeNumber before) → begun ≡ total + length before → byteParsed r ≡ making nodeNumber (nodeInstanceAt (now (s .entry)) true total before at)) ⌝ }
+    ensures { λ r. ⌜ ((total : ℕ) (before : List NodeInstance)
+        → Tells (unmarked (now (seen .entry))) (map nodeNumber before)
+        → begun ≡ total + length before
+        → byteParsed r ≡ making nodeNumber (nodeInstanceAt (now (s .entry)) true total before at)) ⌝ }
 {
     let top = instance_head_at(s, at, begun, seen);
     match top {
@@ -358,7 +367,10 @@ pub fn node_head_at(s: &[u8], at: usize, ids: &[u64]) -> NodeHeadRead
 
 // A node: its ID and how many instances it has. `ids` are the IDs of the nodes before it, and `total` is how many instances these have.
 fn node_at(s: &[u8], at: usize, ids: &[u64], total: usize) -> ElementRead
-    ensures { λ r. ⌜ ((before : List Node) → Tells (fresh true (now (ids .entry))) (map nodeId before) → total ≡ nodeTotal before → elementParsed r ≡ making nodeElement (nodeAt (now (s .entry)) true before at)) ⌝ }
+    ensures { λ r. ⌜ ((before : List Node)
+        → Tells (fresh true (now (ids .entry))) (map nodeId before)
+        → total ≡ nodeTotal before
+        → elementParsed r ≡ making nodeElement (nodeAt (now (s .entry)) true before at)) ⌝ }
 {
     let top = node_head_at(s, at, ids);
     match top {

@@ -9,11 +9,7 @@ use lib.Arith.{digits-lt, digits-div, mod-mul}
 use lib.ListN.{length, take, drop, getD, drop-of-length-le}
 use lib.Seq.{drop-cons}
 use lib.Dec.{lit<}
-use Rattle.numbers.specs.BigEndian.{bigEndian, bytesOf}
-
--- A list of bytes.
-abbrev pub Bytes : List ℕ → Type 0
-Bytes s = (i : ℕ) → getD s i 0 < 256
+use Rattle.numbers.specs.BigEndian.{Bytes, bigEndian, bytesOf}
 
 pub bytes-take : (n : ℕ) (s : List ℕ) → Bytes s → Bytes (take n s)
 bytes-take zero s h i = lit< tt

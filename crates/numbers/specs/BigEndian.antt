@@ -1,7 +1,11 @@
 -- Big-endian numbers. Document 01: "All numbers are big-endian and unsigned."
-use Prim.Native.Nat.{ℕ, zero, suc, _+_, _*_, _/_, _%_, _^_}
+use Prim.Native.Nat.{ℕ, zero, suc, _+_, _*_, _/_, _%_, _^_, _<_}
 use mathlib.Core.List.{List, [], _∷_}
-use lib.ListN.{length}
+use lib.ListN.{length, getD}
+
+-- A list of bytes: every number is below 256.
+abbrev pub Bytes : List ℕ → Type 0
+Bytes s = (i : ℕ) → getD s i 0 < 256
 
 -- The number that a list of bytes stands for: the first byte counts most.
 unfoldable pub bigEndian : List ℕ → ℕ

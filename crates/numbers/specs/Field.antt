@@ -27,10 +27,26 @@ present s at n = leb (at + n) (length s)
 unfoldable pub field : List ℕ → ℕ → ℕ → ℕ
 field s at n = bigEndian (take n (drop at s))
 
--- The number of n bytes at a place with the place after them, or Cut where they are not wholly there.
-unfoldable pub numberAt : List ℕ → ℕ → ℕ → NumberRead
-numberAt s at n = cond (present s at n) (NumberRead.Number (field s at n) (at + n)) NumberRead.Cut
+-- What a reader of a field answers, in the paper's numbers: number 0 with the value and the place after it, or number 2 and zero of everything else.
+pub record FieldValues : Type 0 where
+  pub number : ℕ
+  pub value : ℕ
+  pub next : ℕ
 
--- The same for one byte.
-unfoldable pub byteAt : List ℕ → ℕ → ByteRead
-byteAt s at = cond (present s at 1) (ByteRead.Byte (field s at 1) (at + 1)) ByteRead.Cut
+abbrev pub readWith : ℕ → ℕ → FieldValues
+readWith v n = record { number = 0; value = v; next = n }
+
+abbrev pub notWhole : FieldValues
+notWhole = record { number = 2; value = 0; next = 0 }
+
+abbrev pub numberValues : NumberRead → FieldValues
+numberValues (NumberRead.Number v n) = readWith v n
+numberValues NumberRead.Cut = notWhole
+
+abbrev pub byteValues : ByteRead → FieldValues
+byteValues (ByteRead.Byte v n) = readWith v n
+byteValues ByteRead.Cut = notWhole
+
+-- The number of n bytes at a place with the place after them; 2 where they are not wholly there.
+unfoldable pub numberAt : List ℕ → ℕ → ℕ → FieldValues
+numberAt s at n = cond (present s at n) (readWith (field s at n) (at + n)) notWhole

@@ -6,8 +6,8 @@ use mathlib.Core.Path.{_≡_, refl, sym, _∙_, ap, subst}
 use native.Mathlib.Omega.{arith}
 use lib.ListN.{length, getD, take, drop, length-map, length-take, length-drop}
 use borrow.Author.Tests.{eq-eqb, ne-eqb, eqb-true, ltb-false}
-use Rattle.numbers.specs.BigEndian.{bytesOf}
-use Rattle.numbers.proofs.BigEndianLaws.{Bytes, length-bytes}
+use Rattle.numbers.specs.BigEndian.{bytesOf, Bytes}
+use Rattle.numbers.proofs.BigEndianLaws.{length-bytes}
 use Rattle.numbers.proofs.Bools.{either, and-left}
 use Rattle.format.specs.Limits.{fileLimit}
 use Rattle.format.specs.Fields.{addressSize}
@@ -16,12 +16,11 @@ use Rattle.format.specs.Parsed.{Parsed, done, refused, making}
 use Rattle.format.specs.Refusals.{CheckValues, refusedWith}
 use Rattle.format.specs.Rules.{FieldsFit}
 use Rattle.format.specs.Tree.{Chip}
-use Rattle.format.specs.Verdict.{verdict, checkOf, check, addressIn, addressOf, address}
+use Rattle.format.specs.Verdict.{verdict, checkOf, check, addressIn, addressOf, address, countsOf}
 use Rattle.format.proofs.Acceptance.{verdict-out, read-to-end}
 use Rattle.format.proofs.NumberedLaws.{verdict-numbered}
 use Rattle.format.proofs.PlacesLaws.{addresses-again}
 use Rattle.format.proofs.RegistersAccepted.{size-positive}
-use Rattle.links.proofs.TableLaws.{at-most}
 use Rattle.format.proofs.FaultsLaws.{at-none}
 use Rattle.format.proofs.PositionsLaws.{every-at, at-inside}
 use Rattle.fields.proofs.Parsing.{Found, found, missed}
@@ -30,39 +29,39 @@ use Rattle.index.specs.Rows.{kindOf}
 use Rattle.tables.specs.Keys.{registerKeys}
 use Rattle.index.specs.Columns.{registerKinds, registerPlaces}
 use Rattle.tables.proofs.ColumnLaws.{column-at}
-use Rattle.references.proofs.KeysLaws.{some-out, some-position}
-use Rattle.references.proofs.TablesLaws.{registers-fit, register-position-in}
-use Rattle.reader.specs.Layout.{Summary, layoutValues, chipValues}
+use Rattle.format.proofs.PositionsLaws.{at-most, some-out, some-position}
+use Rattle.tables.proofs.KeysLaws.{registers-fit, register-position-in}
+use Rattle.reader.specs.Layout.{Summary, layoutValues}
 
 -- The checker's values of a reading.
 abbrev checked : Parsed CheckValues → CheckValues
 checked (done v end) = v
 checked (refused n p) = refusedWith n p
 
-check-is : (p : Parsed Chip) → checkOf p ≡ checked (making chipValues p)
+check-is : (p : Parsed Chip) → checkOf p ≡ checked (making countsOf p)
 unfolding checkOf making
 check-is (done c end) = refl
 check-is (refused n p) = refl
 
 -- What was examined.
 module _ (s : List ℕ) {q : Parsed Summary} where
-  module _ {l : Summary} {end : ℕ} (d : q ≡ done l end) (e : making layoutValues q ≡ making chipValues (verdict s)) where
+  module _ {l : Summary} {end : ℕ} (d : q ≡ done l end) (e : making layoutValues q ≡ making countsOf (verdict s)) where
     pub check-accepted : layoutValues l ≡ check s
     unfolding check making
     check-accepted = ap checked (sym (ap (making layoutValues) d) ∙ e) ∙ sym (check-is (verdict s))
 
     pub accepted : (c : Chip) × (verdict s ≡ done c end)
     unfolding making
-    accepted = let f : Found chipValues (verdict s) (layoutValues l) end = found chipValues (verdict s) (sym (ap (making layoutValues) d) ∙ e) in (f .value, f .is)
+    accepted = let f : Found countsOf (verdict s) (layoutValues l) end = found countsOf (verdict s) (sym (ap (making layoutValues) d) ∙ e) in (f .value, f .is)
 
-  module _ {n p : ℕ} (d : q ≡ refused n p) (e : making layoutValues q ≡ making chipValues (verdict s)) where
+  module _ {n p : ℕ} (d : q ≡ refused n p) (e : making layoutValues q ≡ making countsOf (verdict s)) where
     pub check-refused : refusedWith n p ≡ check s
     unfolding check making
     check-refused = ap checked (sym (ap (making layoutValues) d) ∙ e) ∙ sym (check-is (verdict s))
 
     pub not-accepted : verdict s ≡ refused n p
     unfolding making
-    not-accepted = missed chipValues (verdict s) (sym (ap (making layoutValues) d) ∙ e)
+    not-accepted = missed countsOf (verdict s) (sym (ap (making layoutValues) d) ∙ e)
 
     pub address-refused : (id number : ℕ) → record { number = n; place = p; offset = 0; size = 0 } ≡ address s id number
     unfolding address addressOf
@@ -195,3 +194,7 @@ module _ (s : List ℕ) (id number : ℕ) where
   part-none {k} {p} {r} e d =
       let b : 0 ≡ address s id number .size = ap (λ x. x .size) e in
       d ∙ ap (λ k. take k (drop (address s id number .offset) s)) b
+
+  -- The part begins where the address does; an empty one begins where the file does.
+  pub part-place : (b : ℕ) {k p o n : ℕ} → record { number = k; place = p; offset = o; size = n } ≡ address s id number → o + b ≡ b + address s id number .offset
+  part-place b {o = o} e = let d : o ≡ address s id number .offset = ap (λ x. x .offset) e in omega arith

@@ -9,7 +9,7 @@ use native.Mathlib.Omega.{arith}
 use lib.Dec.{eqb}
 use lib.ListN.{length, getD, drop, replicate, length-replicate, length-map, length-append}
 use borrow.Author.Tests.{eqb-true, eq-eqb, ltb-true, lt-ltb}
-use Rattle.numbers.proofs.BigEndianLaws.{Bytes}
+use Rattle.numbers.specs.BigEndian.{Bytes}
 use Rattle.numbers.proofs.Bools.{clash, same-truth}
 use Rattle.graph.specs.Chains.{names}
 use Rattle.graph.specs.Paths.{onCycle}
@@ -36,10 +36,10 @@ use Rattle.index.specs.Columns.{nodePlaces}
 use Rattle.index.specs.Rows.{ReadAgain, entryPlace}
 use Rattle.links.specs.Links.{childRow, childIn, ChildrenFit}
 use Rattle.links.proofs.ChildrenLaws.{child-row-length}
-use Rattle.links.proofs.TableLaws.{at-most, table-child}
+use Rattle.links.proofs.TableLaws.{table-child}
 use Rattle.tables.proofs.ColumnLaws.{column-at}
-use Rattle.references.proofs.KeysLaws.{some-position, some-out}
-use Rattle.references.proofs.TablesLaws.{node-position-in}
+use Rattle.format.proofs.PositionsLaws.{at-most, some-position, some-out}
+use Rattle.tables.proofs.KeysLaws.{node-position-in}
 use Rattle.reader.proofs.NameLaws.{layout-meets, entries-again}
 
 module _ (c : Chip) (meets : LayoutMeets c) (present : NamesPresent c) where

@@ -8,10 +8,10 @@ use Rattle.format.specs.FileLayout.{fileAt}
 use Rattle.format.specs.Parsed.{Parsed, done, refused, making}
 use Rattle.format.specs.References.{Fault, referenceFaults}
 use Rattle.format.specs.Tree.{Chip}
-use Rattle.format.specs.Verdict.{judged, verdict}
+use Rattle.format.specs.Verdict.{judged, verdict, countsOf}
 use Rattle.tables.specs.Faults.{judgedAt}
 use Rattle.index.proofs.Again.{done-out}
-use Rattle.reader.specs.Layout.{Summary, layoutAt, wholeAt, layoutValues, chipValues}
+use Rattle.reader.specs.Layout.{Summary, layoutAt, wholeAt, layoutValues}
 use Rattle.reader.proofs.LayoutLaws.{layout-file}
 use Rattle.reader.proofs.FaultsLaws.{faultless}
 use Rattle.reader.proofs.WholeLaws.{verdict-refused, Whole, whole-out}
@@ -24,9 +24,9 @@ judged-is (f ∷ fs) c end = refl
 
 module _ (s : List ℕ) where
   -- A layout that is refused.
-  pub examined-refused : {n p : ℕ} → refused n p ≡ wholeAt s → refused n p ≡ making chipValues (verdict s)
+  pub examined-refused : {n p : ℕ} → refused n p ≡ wholeAt s → refused n p ≡ making countsOf (verdict s)
   unfolding making
-  examined-refused e = sym (ap (making chipValues) (verdict-refused s e))
+  examined-refused e = sym (ap (making countsOf) (verdict-refused s e))
 
   -- A layout that was read, and its faults.
   module _ {l : Summary} {end : ℕ} (w : done l end ≡ wholeAt s) {y : Parsed (Unit {0})}
@@ -38,19 +38,19 @@ module _ (s : List ℕ) where
     verdict-by z =
         z .verdict-is ∙ judged-is _ (z .parts .chip) end ∙ ap (making (λ _. z .parts .chip)) (sym (f (z .parts .chip) laid-out (z .parts .file)))
 
-    values-are : (z : Whole s l end) → layoutValues l ≡ chipValues (z .parts .chip)
+    values-are : (z : Whole s l end) → layoutValues l ≡ countsOf (z .parts .chip)
     unfolding making
     values-are z =
-        done-out (ap (making layoutValues) laid-out ∙ layout-file s 0 ∙ ap (making chipValues) (z .parts .file)) .0
+        done-out (ap (making layoutValues) laid-out ∙ layout-file s 0 ∙ ap (making countsOf) (z .parts .file)) .0
 
-    pub examined-faulty : {n p : ℕ} → y ≡ refused n p → refused n p ≡ making chipValues (verdict s)
+    pub examined-faulty : {n p : ℕ} → y ≡ refused n p → refused n p ≡ making countsOf (verdict s)
     unfolding making
-    examined-faulty e = let z = whole-out s w in sym (ap (making chipValues) (verdict-by z ∙ ap (making (λ _. z .parts .chip)) e))
+    examined-faulty e = let z = whole-out s w in sym (ap (making countsOf) (verdict-by z ∙ ap (making (λ _. z .parts .chip)) e))
 
-    pub examined-clean : {u : Unit {0}} {a : ℕ} → y ≡ done u a → done (layoutValues l) end ≡ making chipValues (verdict s)
+    pub examined-clean : {u : Unit {0}} {a : ℕ} → y ≡ done u a → done (layoutValues l) end ≡ making countsOf (verdict s)
     unfolding making
     examined-clean {u} {a} e =
         let z = whole-out s w in
         let c = z .parts .chip in
         let q : end ≡ a = faultless _ (sym (f c laid-out (z .parts .file)) ∙ e) .1 in
-        sym (ap (making chipValues) (verdict-by z ∙ ap (making (λ _. c)) e) ∙ rw (← q, ← values-are z))
+        sym (ap (making countsOf) (verdict-by z ∙ ap (making (λ _. c)) e) ∙ rw (← q, ← values-are z))

@@ -3,9 +3,9 @@ use Prim.Native.Nat.{ℕ, _+_, _≤_}
 use mathlib.Core.Bool.{true}
 use mathlib.Core.List.{List, [], _∷_, _++_, map, map-map}
 use mathlib.Core.Path.{_≡_, refl, sym, _∙_, ap, subst}
-use lib.ListN.{length, take, drop, replicate, length-replicate, length-map}
-use lib.Seq.{take-append-seam}
-use Rattle.numbers.proofs.BigEndianLaws.{Bytes}
+use native.Mathlib.Omega.{arith}
+use lib.ListN.{length, take, replicate, length-replicate, length-map}
+use Rattle.numbers.specs.BigEndian.{Bytes}
 use Rattle.format.specs.Cycles.{cycleFaults}
 use Rattle.format.specs.FileLayout.{rootsAt, fileAt}
 use Rattle.format.specs.Limits.{registerLimit, nodeLimit}
@@ -19,7 +19,7 @@ use Rattle.format.proofs.Grouping.{register-count, node-count}
 use Rattle.format.proofs.ParsedLaws.{never}
 use Rattle.tables.specs.Tables.{written}
 use Rattle.tables.specs.Faults.{judgedAt}
-use Rattle.tables.proofs.TablesLaws.{written-front}
+use Rattle.tables.proofs.TablesLaws.{written-take}
 use Rattle.tables.proofs.FaultsLaws.{judged-stop}
 use Rattle.index.specs.Rows.{Rows, filled, rowOf, registerRow, nodeRow}
 use Rattle.tables.specs.Keys.{registerKeys, nodeKeys}
@@ -29,10 +29,6 @@ use Rattle.index.proofs.FillingLaws.{filled-columns}
 use Rattle.reader.specs.Layout.{Summary, layoutAt}
 use Rattle.reader.proofs.LayoutLaws.{Sections, sections}
 use Rattle.reader.proofs.NameLaws.{layout-meets}
-
--- What was written to the front of a table that has room.
-pub front : (t xs : List ℕ) (n : ℕ) → n ≡ length xs → length xs ≤ length t → take n (written t 0 xs) ≡ xs
-front t xs n e h = rw (e, written-front t xs h) (take-append-seam xs (drop (length xs) t))
 
 -- No fault: the list is empty.
 pub faultless : (fs : List Fault) {k a : ℕ} {u : Unit {0}} → judgedAt fs k ≡ done u a → (fs ≡ []) × (k ≡ a)
@@ -80,12 +76,20 @@ module _ (s : List ℕ) (bytes : Bytes s) {l : Summary} {end : ℕ} where
       let z = sections s 0 (sym layout) in
       subst (Laid s l end) (same-done (sym (z .file)) file .0) (laid-here z)
 
+  -- The layout of a file has no more instances than the limits allow.
+  pub within-limits : done l end ≡ layoutAt s 0 → (l .registerInstances ≤ registerLimit) × (l .nodeInstances ≤ nodeLimit)
+  unfolding registerLimit nodeLimit
+  within-limits layout =
+      let z = sections s 0 (sym layout) in
+      let d = laid-here z in
+      (omega (arith, d .registerCount, d .registerRoom), omega (arith, d .nodeCount, d .nodeRoom))
+
 -- The tables of a file, filled from the front.
 column : {E : Type 0} (es : List E) (f : E → ℕ) (k size : ℕ) → k ≡ length es → length es ≤ size → {t : List ℕ} → t ≡ written (replicate size 0) 0 (map f es) → take k t ≡ map f es
 column es f k size e h d =
     let i : k ≡ length (map f es) = e ∙ sym (length-map es f) in
     let j : length (map f es) ≤ length (replicate {A = ℕ} size 0) = rw (length-map es f, length-replicate {A = ℕ} size 0) h in
-    ap (take k) d ∙ front (replicate size 0) (map f es) k i j
+    ap (take k) d ∙ written-take (replicate size 0) (map f es) k i j
 
 module _ (c : Chip) where
   pub register-tables : (m : ℕ) → m ≡ length (registerEntries c) → length (registerEntries c) ≤ 1024 → {keys kinds spots : List ℕ}

@@ -11,11 +11,12 @@ use Rattle.format.specs.RegisterLayout.{registerTotal, registersAt}
 use Rattle.format.specs.NodeLayout.{nodeTotal, nodesAt}
 use Rattle.format.specs.FileLayout.{startAt, rootsAt, fileAt}
 use Rattle.format.specs.Tree.{Register, Node, Root, Chip}
+use Rattle.format.specs.Verdict.{countsOf}
 use Rattle.fields.specs.declared.SectionRead
 use Rattle.fields.specs.declared.SectionRead.{SectionRead}
 use Rattle.fields.specs.declared.ByteRead
 use Rattle.fields.specs.declared.ByteRead.{ByteRead}
-use Rattle.reader.specs.Layout.{Summary, summary, layoutAt, layoutValues, chipValues}
+use Rattle.reader.specs.Layout.{Summary, summary, layoutAt, layoutValues}
 use Rattle.fields.specs.Views.{Section, refusedBy, byteParsed, sectionParsed}
 use Rattle.format.proofs.Grouping.{register-count, node-count}
 use Rattle.registers.specs.Registers.{registerSection}
@@ -60,7 +61,7 @@ summary-is m rs ns ts a b c end {e} {i} {f} {j} {t} p q r =
     rw (pe, pi, qe, qi, r)
 
 -- The layout is the file's tree, summarised: the same refusals, the same end, and the checker's values.
-pub layout-file : (s : List ℕ) (at : ℕ) → making layoutValues (layoutAt s at) ≡ making chipValues (fileAt s true at)
+pub layout-file : (s : List ℕ) (at : ℕ) → making layoutValues (layoutAt s at) ≡ making countsOf (fileAt s true at)
 unfolding layoutAt fileAt registerEntries nodeEntries
 layout-file s at = simp (making-after, making-making, register-count, node-count)
 

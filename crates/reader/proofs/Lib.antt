@@ -7,4 +7,6 @@ pub mod FaultsLaws
 pub mod CycleLaws
 pub mod ExamineLaws
 pub mod AddressLaws
+pub mod ChildPlacesLaws
+pub mod ColumnsLaws
 pub mod PreparedLaws

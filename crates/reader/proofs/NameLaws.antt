@@ -3,7 +3,7 @@ use Prim.Native.Nat.{ℕ}
 use mathlib.Core.Bool.{true}
 use mathlib.Core.List.{List, map}
 use mathlib.Core.Path.{_≡_, sym, _∙_, ap}
-use Rattle.numbers.proofs.BigEndianLaws.{Bytes}
+use Rattle.numbers.specs.BigEndian.{Bytes}
 use Rattle.format.specs.FileLayout.{rootsAt, fileAt}
 use Rattle.format.specs.Lookup.{gathered, NodeEntry, nodeEntries}
 use Rattle.format.specs.Parsed.{Parsed, done, refused}

@@ -9,16 +9,19 @@ use borrow.Author.Tests.{le-leb, lt-leb}
 use Rattle.format.specs.FileLayout.{rootsAt, fileAt}
 use Rattle.format.specs.Lookup.{gathered, NodeEntry, nodeEntries, registerEntries}
 use Rattle.format.specs.Parsed.{done, refused}
-use Rattle.format.specs.Rules.{Every}
+use Rattle.format.specs.Refusals.{CheckValues, refusedWith}
+use Rattle.format.specs.Rules.{Every, Meets}
 use Rattle.format.specs.Tree.{Root, Chip}
-use Rattle.format.specs.Verdict.{verdict}
+use Rattle.format.specs.Verdict.{verdict, checkOf, check}
 use Rattle.tables.specs.Tables.{written}
 use Rattle.tables.specs.Keys.{registerKeys, nodeKeys}
 use Rattle.index.specs.Columns.{nodePlaces}
 use Rattle.index.specs.Rows.{ReadAgain, entryPlace}
 use Rattle.links.specs.Links.{rulePlace, childRow}
 use Rattle.references.specs.RootIn.{rootPosition}
-use Rattle.reader.specs.Prepared.{Lent, filledFor, roomOf, roomFor, prepared}
+use Rattle.reader.specs.Filled.{filledBy}
+use Rattle.reader.specs.Prepared.{Lent, filledFor, roomOf, roomFor, prepared, preparing}
+use Rattle.reader.proofs.ColumnsLaws.{columns-same}
 use Rattle.reader.proofs.NameLaws.{entries-again}
 
 module _ (s : List ℕ) (at attention : ℕ) (c : Chip) (end : ℕ) (file : fileAt s true 0 ≡ done c end) (roots : rootsAt s true at ≡ done (c .roots) end)
@@ -27,8 +30,8 @@ module _ (s : List ℕ) (at attention : ℕ) (c : Chip) (end : ℕ) (file : file
       → ((es : List NodeEntry) → Every (ReadAgain s) es → places ≡ map entryPlace es → d ≡ written (t .rules) 0 (map (λ e. rulePlace attention (e .instance .rules)) es))
       → ((es : List NodeEntry) → Every (ReadAgain s) es → places ≡ map entryPlace es → e ≡ written (t .children) 0 (gathered (λ e. childRow names (e .instance)) es))
       → ((ts : List Root) (m : ℕ) → rootsAt s true at ≡ done ts m → k ≡ rootPosition names attention ts) → f ≡ set (t .root) 0 k
-      → _≡_ {A = Lent} (record { registers = a; nodes = b; rules = d; children = e; root = f }) (filledFor attention c t)
-  unfolding filledFor written
+      → _≡_ {A = Lent} (record { registers = a; nodes = b; rules = d; children = e; root = f }) (filledBy attention c t)
+  unfolding filledBy written
   lent-filled p q r u v w =
       let again = entries-again s file in
       let x = r (nodeEntries c) again ep in
@@ -58,21 +61,30 @@ module _ (m n registers nodes rules children root : ℕ) where
   unfolding roomOf
   room-root a b d h e = rw (le-leb _ _ a, le-leb _ _ b, le-leb _ _ d, le-leb _ _ h) e
 
--- The tables after the call.
+-- The tables after the call, and the answer.
 module _ (s : List ℕ) (attention : ℕ) (t : Lent) where
-  pub prepared-refused : {n p : ℕ} → verdict s ≡ refused n p → t ≡ prepared attention (verdict s) t
-  unfolding prepared
-  prepared-refused e = rw e
+  pub prepared-refused : {n p : ℕ} → verdict s ≡ refused n p → (refusedWith n p ≡ preparing (verdict s) t) × (t ≡ prepared attention (verdict s) t)
+  unfolding prepared preparing
+  prepared-refused e = (rw e, rw e)
 
   module _ {c : Chip} {end : ℕ} (v : verdict s ≡ done c end) {m n : ℕ} (registers : m ≡ length (registerEntries c)) (nodes : n ≡ length (nodeEntries c))
       {r : Bool} (room : r ≡ roomOf m n (length (t .registers)) (length (t .nodes)) (length (t .rules)) (length (t .children)) (length (t .root))) where
     room-is : r ≡ roomFor c t
     room-is = room ∙ rw (registers, nodes)
 
-    pub prepared-short : r ≡ false → t ≡ prepared attention (verdict s) t
-    unfolding prepared
-    prepared-short e = let z : roomFor c t ≡ false = sym room-is ∙ e in sym (ap (λ q. prepared attention q t) v ∙ ap (λ b. cond b (filledFor attention c t) t) z)
+    pub prepared-short : r ≡ false → (refusedWith 43 0 ≡ preparing (verdict s) t) × (t ≡ prepared attention (verdict s) t)
+    unfolding prepared preparing
+    prepared-short e =
+        let z : roomFor c t ≡ false = sym room-is ∙ e in (
+          sym (ap (λ q. preparing q t) v ∙ ap (λ b. cond b (checkOf (done c end)) (refusedWith 43 0)) z),
+          sym (ap (λ q. prepared attention q t) v ∙ ap (λ b. cond b (filledFor attention c t) t) z),
+        )
 
-    pub prepared-filled : r ≡ true → {u : Lent} → u ≡ filledFor attention c t → u ≡ prepared attention (verdict s) t
-    unfolding prepared
-    prepared-filled e {u} d = let z : roomFor c t ≡ true = sym room-is ∙ e in d ∙ sym (ap (λ q. prepared attention q t) v ∙ ap (λ b. cond b (filledFor attention c t) t) z)
+    pub prepared-filled : Meets c → r ≡ true → {u : Lent} → u ≡ filledBy attention c t → {w : CheckValues} → w ≡ check s
+        → (w ≡ preparing (verdict s) t) × (u ≡ prepared attention (verdict s) t)
+    unfolding prepared preparing check
+    prepared-filled meets e {u} d {w} k =
+        let z : roomFor c t ≡ true = sym room-is ∙ e in (
+          k ∙ ap checkOf v ∙ sym (ap (λ q. preparing q t) v ∙ ap (λ b. cond b (checkOf (done c end)) (refusedWith 43 0)) z),
+          d ∙ columns-same c meets attention t z ∙ sym (ap (λ q. prepared attention q t) v ∙ ap (λ b. cond b (filledFor attention c t) t) z),
+        )

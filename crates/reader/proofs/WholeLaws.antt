@@ -12,11 +12,11 @@ use Rattle.format.specs.FileLayout.{fileAt}
 use Rattle.format.specs.Parsed.{Parsed, done, refused, andThen, making, require}
 use Rattle.format.specs.References.{referenceFaults}
 use Rattle.format.specs.Tree.{Chip}
-use Rattle.format.specs.Verdict.{judged, verdict}
+use Rattle.format.specs.Verdict.{judged, verdict, countsOf}
 use Rattle.format.proofs.ParsedLaws.{never, then-out, require-out}
 use Rattle.index.proofs.Again.{done-out}
 use Rattle.fields.proofs.Parsing.{missed}
-use Rattle.reader.specs.Layout.{Summary, layoutAt, wholeAt, layoutValues, chipValues}
+use Rattle.reader.specs.Layout.{Summary, layoutAt, wholeAt, layoutValues}
 use Rattle.reader.proofs.LayoutLaws.{layout-file, Sections, sections}
 
 -- What the code does with the layout.
@@ -42,7 +42,7 @@ module _ (s : List ℕ) (short : length s ≤ 65536) where
 
 layout-refused : (s : List ℕ) {n p : ℕ} → layoutAt s 0 ≡ refused n p → fileAt s true 0 ≡ refused n p
 unfolding making
-layout-refused s {n} {p} e = missed chipValues (fileAt s true 0) (sym (ap (making layoutValues) e) ∙ layout-file s 0)
+layout-refused s {n} {p} e = missed countsOf (fileAt s true 0) (sym (ap (making layoutValues) e) ∙ layout-file s 0)
 
 -- A refusal of one reading as that of another.
 again : {A B : Type 0} {n p k m : ℕ} → _≡_ {A = Parsed A} (refused n p) (refused k m) → _≡_ {A = Parsed B} (refused k m) (refused n p)

@@ -1,17 +1,16 @@
 -- The layout of a whole file as the reader keeps it: what it holds, and where its sections begin.
-use Prim.Native.Nat.{ℕ}
+use Prim.Native.Nat.{ℕ, _≤_}
 use mathlib.Core.Bool.{true}
 use mathlib.Core.List.{List}
 use lib.ListN.{length}
 use lib.Dec.{leb}
-use Rattle.format.specs.Limits.{fileLimit}
+use Rattle.format.specs.Limits.{fileLimit, registerLimit, nodeLimit}
 use Rattle.format.specs.Parsed.{Parsed, done, andThen, making, require}
 use Rattle.format.specs.RegisterLayout.{registerTotal, registersAt}
 use Rattle.format.specs.NodeLayout.{nodeTotal, nodesAt}
 use Rattle.format.specs.FileLayout.{startAt, rootsAt}
-use Rattle.format.specs.Tree.{Register, Node, Root, Chip}
+use Rattle.format.specs.Tree.{Register, Node, Root}
 use Rattle.format.specs.Refusals.{CheckValues, acceptedWith}
-use Rattle.format.specs.Lookup.{registerEntries, nodeEntries}
 use Rattle.reader.specs.declared.Layout.{Layout}
 use Rattle.reader.specs.declared.LayoutRead
 use Rattle.reader.specs.declared.LayoutRead.{LayoutRead}
@@ -33,6 +32,10 @@ abbrev pub laidOut : Layout → Summary
 laidOut l =
     record { model = l .model; registers = l .registers; registerInstances = l .«register_instances»; nodes = l .nodes; nodeInstances = l .«node_instances»; roots = l .roots; registersPlace = l .«registers_at»; nodesPlace = l .«nodes_at»; rootsPlace = l .«roots_at» }
 
+-- A layout with no more instances than a file may have.
+abbrev pub Bounded : Layout → Type 0
+Bounded l = (l .«register_instances» ≤ registerLimit) × (l .«node_instances» ≤ nodeLimit)
+
 abbrev pub layoutParsed : LayoutRead → Parsed Summary
 layoutParsed (LayoutRead.Done l) = done (laidOut l) (l .end)
 layoutParsed (LayoutRead.Refused r) = refusedBy r
@@ -47,12 +50,9 @@ layoutAt s at =
     andThen (startAt s at) λ m a. andThen (registersAt s true a) λ rs b. andThen (nodesAt s true b) λ ns c.
     making (λ ts. summary m rs ns ts a b c) (rootsAt s true c)
 
--- The checker's values of a layout and of a file's tree.
+-- The checker's values of a layout.
 abbrev pub layoutValues : Summary → CheckValues
 layoutValues l = acceptedWith (l .model) (l .registers) (l .registerInstances) (l .nodes) (l .nodeInstances) (l .roots)
-
-abbrev pub chipValues : Chip → CheckValues
-chipValues c = acceptedWith (c .model) (length (c .registers)) (length (registerEntries c)) (length (c .nodes)) (length (nodeEntries c)) (length (c .roots))
 
 -- The layout of a whole file: 1 where it is too long, and 11 where bytes follow the last root.
 unfoldable pub wholeAt : List ℕ → Parsed Summary

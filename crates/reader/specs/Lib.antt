@@ -2,3 +2,4 @@
 pub mod Roots
 pub mod Layout
 pub mod Prepared
+pub mod Filled

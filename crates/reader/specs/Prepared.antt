@@ -1,16 +1,18 @@
--- The tables that a caller lends for a file and a wanted attention type.
+-- The tables that a caller lends for a file and a wanted attention type, and what they hold of an accepted file.
 use Prim.Native.Nat.{ℕ, _/_}
 use mathlib.Core.Bool.{Bool, cond, _&&_}
-use mathlib.Core.List.{List, [], _∷_, map}
+use mathlib.Core.List.{List, [], _∷_, _++_, map}
+use mathlib.Core.Option.{Option, none, some}
 use lib.Dec.{leb}
-use lib.ListN.{length}
-use Rattle.format.specs.Lookup.{gathered, registerEntries, nodeEntries}
+use lib.ListN.{length, drop}
+use Rattle.graph.specs.Chains.{below}
+use Rattle.format.specs.Finding.{ruleFor, rootFor, childFor, childPosition}
+use Rattle.format.specs.Lookup.{gathered, registerEntries, nodeEntries, nodePosition}
 use Rattle.format.specs.Parsed.{Parsed, done, refused}
-use Rattle.format.specs.Tree.{Chip}
-use Rattle.tables.specs.Tables.{written}
+use Rattle.format.specs.Refusals.{CheckValues, refusedWith}
+use Rattle.format.specs.Tree.{Rule, Root, NodeInstance, Chip}
+use Rattle.format.specs.Verdict.{checkOf}
 use Rattle.tables.specs.Keys.{registerKeys, nodeKeys}
-use Rattle.links.specs.Links.{rulePlace, childRow}
-use Rattle.references.specs.RootIn.{rootPosition}
 
 -- The names of the register instances and of the node instances, the wanted rule of each node instance, the children of each, and the wanted root.
 pub record Lent : Type 0 where
@@ -20,23 +22,48 @@ pub record Lent : Type 0 where
   pub children : List ℕ
   pub root : List ℕ
 
--- The places of the expressions of the node instances' rules for an attention type; 0 where there is none.
+abbrev pub lent : List ℕ → List ℕ → List ℕ → List ℕ → List ℕ → Lent
+lent a b c d e = record { registers = a; nodes = b; rules = c; children = d; root = e }
+
+-- The place of a rule's expression; 0 where there is no rule.
+unfoldable pub expressionPlace : List Rule → ℕ
+expressionPlace [] = 0
+expressionPlace (r ∷ rs) = r .place
+
+-- The place of the expression of each node instance's rule for an attention type.
 abbrev pub ruleColumn : ℕ → Chip → List ℕ
-ruleColumn attention c = map (λ e. rulePlace attention (e .instance .rules)) (nodeEntries c)
+ruleColumn attention c = map (λ e. expressionPlace (ruleFor attention (e .instance))) (nodeEntries c)
 
--- 64 places for the children of each node instance: the position of each bit's child, or 65,535.
+-- A position, or 65,535 for none: a file has at most 256 node instances.
+unfoldable pub positionOr : Option ℕ → ℕ
+positionOr none = 0xFFFF
+positionOr (some k) = k
+
+-- 64 places for a node instance: the position of the node instance that each bit's child entry names.
+unfoldable pub childPlaces : Chip → NodeInstance → List ℕ
+childPlaces c i = map (λ b. positionOr (childPosition c (childFor b i))) (below 64)
+
+-- Those of each node instance.
 abbrev pub childColumn : Chip → List ℕ
-childColumn c = gathered (λ e. childRow (nodeKeys c) (e .instance)) (nodeEntries c)
+childColumn c = gathered (λ e. childPlaces c (e .instance)) (nodeEntries c)
 
--- Each table, written from its front on.
+-- The position of the node instance that a root names; 65,535 where there is no root.
+unfoldable pub rootPlace : Chip → List Root → ℕ
+rootPlace c [] = 0xFFFF
+rootPlace c (t ∷ ts) = nodePosition c (t .id) (t .number)
+
+-- A table that begins with some numbers and goes on as it was.
+abbrev pub beginning : List ℕ → List ℕ → List ℕ
+beginning xs t = xs ++ drop (length xs) t
+
 unfoldable pub filledFor : ℕ → Chip → Lent → Lent
 filledFor attention c t =
     record {
-      registers = written (t .registers) 0 (registerKeys c);
-      nodes = written (t .nodes) 0 (nodeKeys c);
-      rules = written (t .rules) 0 (ruleColumn attention c);
-      children = written (t .children) 0 (childColumn c);
-      root = written (t .root) 0 (rootPosition (nodeKeys c) attention (c .roots) ∷ []);
+      registers = beginning (registerKeys c) (t .registers);
+      nodes = beginning (nodeKeys c) (t .nodes);
+      rules = beginning (ruleColumn attention c) (t .rules);
+      children = beginning (childColumn c) (t .children);
+      root = beginning (rootPlace c (rootFor attention c) ∷ []) (t .root);
     }
 
 -- Tables of these lengths are long enough for m register instances and n node instances.
@@ -52,3 +79,8 @@ roomFor c t =
 unfoldable pub prepared : ℕ → Parsed Chip → Lent → Lent
 prepared attention (done c end) t = cond (roomFor c t) (filledFor attention c t) t
 prepared attention (refused n p) t = t
+
+-- The answer: the checker's; 43 at 0 where the file is accepted and a table is too short for it.
+unfoldable pub preparing : Parsed Chip → Lent → CheckValues
+preparing (done c end) t = cond (roomFor c t) (checkOf (done c end)) (refusedWith 43 0)
+preparing (refused n p) t = refusedWith n p

@@ -6,8 +6,9 @@ use format::Address;
 use format::Kind;
 use format::Refusal;
 use index::register_rows::fill_registers;
-use rules::name_position;
 use tables::entry;
+use tables::name_position;
+ghost use Prim.Native.Nat.{_+_};
 ghost use mathlib.Core.Bool.{true};
 ghost use mathlib.Core.Path.{_≡_};
 ghost use lib.ListN.{take, drop};
@@ -20,11 +21,16 @@ ghost use Rattle.format.specs.Tree.{Chip};
 ghost use Rattle.format.specs.Verdict.{addressIn, address};
 ghost use Rattle.tables.specs.Keys.{registerKeys};
 ghost use Rattle.index.specs.Columns.{registerKinds, registerPlaces};
-ghost use Rattle.reader.specs.Layout.{laidOut, layoutAt};
+ghost use Rattle.reader.specs.Layout.{laidOut, layoutAt, Bounded};
 
 // The address of a register instance by the file's tables. It looks at each key once, up to the one that is sought.
 fn table_address(keys: &[u64], kinds: &[u64], spots: &[u64], id: u64, number: u8) -> Address
-    ensures { λ r. ⌜ ((c : Chip) → FieldsFit c → now (keys .entry) ≡ registerKeys c → now (kinds .entry) ≡ registerKinds c → now (spots .entry) ≡ registerPlaces c → addressValues r ≡ addressIn (at (registerPosition c id number) (registerEntries c))) ⌝ }
+    ensures { λ r. ⌜ ((c : Chip)
+        → FieldsFit c
+        → now (keys .entry) ≡ registerKeys c
+        → now (kinds .entry) ≡ registerKinds c
+        → now (spots .entry) ≡ registerPlaces c
+        → addressValues r ≡ addressIn (at (registerPosition c id number) (registerEntries c))) ⌝ }
 {
     if id < 0x1000000 {
         let k = name_position(keys, id, number);
@@ -44,12 +50,13 @@ fn table_address(keys: &[u64], kinds: &[u64], spots: &[u64], id: u64, number: u8
 
 // The address of a register instance of a file whose layout was read. It reads the registers section once.
 fn laid_address(s: &[u8], l: Layout, id: u64, number: u8) -> Address
-    ensures { λ r. ⌜ ((c : Chip) → done (laidOut l) (l .end) ≡ layoutAt (now (s .entry)) 0 → fileAt (now (s .entry)) true 0 ≡ done c (l .end) → addressValues r ≡ addressIn (at (registerPosition c id number) (registerEntries c))) ⌝ }
+    requires { ⌜ Bounded l ⌝ }
+    ensures { λ r. ⌜ ((c : Chip)
+        → done (laidOut l) (l .end) ≡ layoutAt (now (s .entry)) 0
+        → fileAt (now (s .entry)) true 0 ≡ done c (l .end)
+        → addressValues r ≡ addressIn (at (registerPosition c id number) (registerEntries c))) ⌝ }
 {
     let m = l.register_instances;
-    if format::REGISTER_LIMIT < m {
-        return Address::At(0, 0);
-    }
     let mut keys = [0u64; format::REGISTER_LIMIT];
     let mut kinds = [0u64; format::REGISTER_LIMIT];
     let mut spots = [0u64; format::REGISTER_LIMIT];
@@ -70,7 +77,9 @@ pub fn address(file: &[u8], id: u64, number: u8) -> Address
 
 // The part of the file that holds the address of a register instance; an empty part where the query refuses.
 pub fn address_part(file: &[u8], id: u64, number: u8) -> &[u8]
-    ensures { λ r. ⌜ now r ≡ take (address (now (file .entry)) id number .size) (drop (address (now (file .entry)) id number .offset) (now (file .entry))) ⌝ }
+    ensures place { λ r. ⌜ (r .ptr .0 ≡ file .entry .ptr .0) × (r .ptr .1 ≡ file .entry .ptr .1 + address (now (file .entry)) id number .offset) ⌝ }
+    ensures content { λ r. ⌜ now r
+        ≡ take (address (now (file .entry)) id number .size) (drop (address (now (file .entry)) id number .offset) (now (file .entry))) ⌝ }
 {
     let a = address(file, id, number);
     match a {

@@ -1,11 +1,8 @@
 // Refusals 12 to 14 of a file whose layout was read.
-use crate::Layout;
 use cycles::first_cycle;
 use fields::NextRead;
 use format::Kind;
 use format::Refusal;
-use index::node_rows::fill_nodes;
-use index::register_rows::fill_registers;
 use links::fill_children;
 use references::node_faults;
 use references::roots::root_faults;
@@ -22,7 +19,6 @@ ghost use Rattle.fields.specs.Views.{nextParsed};
 ghost use Rattle.tables.specs.Faults.{judgedAt};
 ghost use Rattle.tables.specs.Keys.{nodeKeys};
 ghost use Rattle.index.specs.Columns.{nodePlaces, TablesOf};
-ghost use Rattle.reader.specs.Layout.{laidOut, layoutAt};
 
 // The first fault of 12 and 13, by the file's tables; where there is none, the place after the roots section.
 fn name_faults(
@@ -34,7 +30,11 @@ fn name_faults(
     wanted: &[u64],
     places: &[u64],
 ) -> NextRead
-    ensures { λ r. ⌜ ((c : Chip) (end : ℕ) → fileAt (now (s .entry)) true 0 ≡ done c end → rootsAt (now (s .entry)) true «roots_at» ≡ done (c .roots) end → TablesOf c (now (keys .entry)) (now (kinds .entry)) (now (nodes .entry)) (now (wanted .entry)) (now (places .entry)) → nextParsed r ≡ judgedAt (referenceFaults c) end) ⌝ }
+    ensures { λ r. ⌜ ((c : Chip) (end : ℕ)
+        → fileAt (now (s .entry)) true 0 ≡ done c end
+        → rootsAt (now (s .entry)) true «roots_at» ≡ done (c .roots) end
+        → TablesOf c (now (keys .entry)) (now (kinds .entry)) (now (nodes .entry)) (now (wanted .entry)) (now (places .entry))
+        → nextParsed r ≡ judgedAt (referenceFaults c) end) ⌝ }
 {
     let f = node_faults(s, places, wanted, keys, kinds, nodes);
     match f {
@@ -45,7 +45,12 @@ fn name_faults(
 
 // 14 where the child entries make a cycle; otherwise the place that is given.
 fn cycle_fault(s: &[u8], nodes: &[u64], places: &[u64], next: usize) -> NextRead
-    ensures { λ r. ⌜ ((c : Chip) (end : ℕ) → fileAt (now (s .entry)) true 0 ≡ done c end → referenceFaults c ≡ [] → now (nodes .entry) ≡ nodeKeys c → now (places .entry) ≡ nodePlaces c → nextParsed r ≡ judgedAt (cycleFaults c) next) ⌝ }
+    ensures { λ r. ⌜ ((c : Chip) (end : ℕ)
+        → fileAt (now (s .entry)) true 0 ≡ done c end
+        → referenceFaults c ≡ []
+        → now (nodes .entry) ≡ nodeKeys c
+        → now (places .entry) ≡ nodePlaces c
+        → nextParsed r ≡ judgedAt (cycleFaults c) next) ⌝ }
 {
     let n = places.len();
     let mut child = [0xFFFFu16; 16384];
@@ -61,7 +66,7 @@ fn cycle_fault(s: &[u8], nodes: &[u64], places: &[u64], next: usize) -> NextRead
 }
 
 // The first fault of 12 to 14, by the file's tables; where there is none, the place after the roots section.
-fn table_faults(
+pub fn table_faults(
     s: &[u8],
     roots_at: usize,
     keys: &[u64],
@@ -70,42 +75,15 @@ fn table_faults(
     wanted: &[u64],
     places: &[u64],
 ) -> NextRead
-    ensures { λ r. ⌜ ((c : Chip) (end : ℕ) → fileAt (now (s .entry)) true 0 ≡ done c end → rootsAt (now (s .entry)) true «roots_at» ≡ done (c .roots) end → TablesOf c (now (keys .entry)) (now (kinds .entry)) (now (nodes .entry)) (now (wanted .entry)) (now (places .entry)) → nextParsed r ≡ judgedAt (referenceFaults c ++ cycleFaults c) end) ⌝ }
+    ensures { λ r. ⌜ ((c : Chip) (end : ℕ)
+        → fileAt (now (s .entry)) true 0 ≡ done c end
+        → rootsAt (now (s .entry)) true «roots_at» ≡ done (c .roots) end
+        → TablesOf c (now (keys .entry)) (now (kinds .entry)) (now (nodes .entry)) (now (wanted .entry)) (now (places .entry))
+        → nextParsed r ≡ judgedAt (referenceFaults c ++ cycleFaults c) end) ⌝ }
 {
     let f = name_faults(s, roots_at, keys, kinds, nodes, wanted, places);
     match f {
         NextRead::Next(end) => cycle_fault(s, nodes, places, end),
         NextRead::Refused(r) => NextRead::Refused(r),
     }
-}
-
-// The first fault of 12 to 14 of a file whose layout was read; where there is none, the place after the roots section. It reads the file once for its rows, the nodes section once to look up its names, and once for its children.
-pub fn faults(s: &[u8], l: Layout) -> NextRead
-    ensures { λ r. ⌜ ((c : Chip) → done (laidOut l) (l .end) ≡ layoutAt (now (s .entry)) 0 → fileAt (now (s .entry)) true 0 ≡ done c (l .end) → nextParsed r ≡ judgedAt (referenceFaults c ++ cycleFaults c) (l .end)) ⌝ }
-{
-    let m = l.register_instances;
-    let n = l.node_instances;
-    if format::REGISTER_LIMIT < m {
-        return NextRead::Next(0);
-    }
-    if format::NODE_LIMIT < n {
-        return NextRead::Next(0);
-    }
-    let mut keys = [0u64; format::REGISTER_LIMIT];
-    let mut kinds = [0u64; format::REGISTER_LIMIT];
-    let mut spots = [0u64; format::REGISTER_LIMIT];
-    fill_registers(s, l.registers_at, &mut keys, &mut kinds, &mut spots);
-    let mut nodes = [0u64; format::NODE_LIMIT];
-    let mut wanted = [0u64; format::NODE_LIMIT];
-    let mut places = [0u64; format::NODE_LIMIT];
-    fill_nodes(s, l.nodes_at, &mut nodes, &mut wanted, &mut places);
-    table_faults(
-        s,
-        l.roots_at,
-        &keys[..m],
-        &kinds[..m],
-        &nodes[..n],
-        &wanted[..n],
-        &places[..n],
-    )
 }

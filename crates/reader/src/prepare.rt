@@ -4,6 +4,8 @@ use crate::LayoutRead;
 use crate::file::examine;
 use crate::summary;
 use format::Checked;
+use format::Kind;
+use format::Refusal;
 use index::node_rows::fill_nodes;
 use index::register_rows::fill_registers;
 use links::fill_children;
@@ -18,11 +20,12 @@ ghost use Rattle.format.specs.FileLayout.{rootsAt, fileAt};
 ghost use Rattle.format.specs.Parsed.{done};
 ghost use Rattle.format.specs.Refusals.{checkedValues};
 ghost use Rattle.format.specs.Tree.{Chip};
-ghost use Rattle.format.specs.Verdict.{verdict, check};
+ghost use Rattle.format.specs.Verdict.{verdict};
 ghost use Rattle.tables.specs.Keys.{registerKeys, nodeKeys};
 ghost use Rattle.index.specs.Columns.{nodePlaces};
-ghost use Rattle.reader.specs.Layout.{laidOut, layoutAt};
-ghost use Rattle.reader.specs.Prepared.{Lent, filledFor, roomOf, prepared};
+ghost use Rattle.reader.specs.Layout.{laidOut, layoutAt, Bounded};
+ghost use Rattle.reader.specs.Filled.{filledBy};
+ghost use Rattle.reader.specs.Prepared.{lent, roomOf, prepared, preparing};
 
 // The lent tables, from the tables of a file that was read before. It reads the nodes section twice.
 fn fill_lent(
@@ -38,7 +41,14 @@ fn fill_lent(
     children: &mut [u16],
     root: &mut [u64],
 )
-    ensures { λ r. ⌜ ((c : Chip) (end : ℕ) → fileAt (now (s .entry)) true 0 ≡ done c end → rootsAt (now (s .entry)) true «roots_at» ≡ done (c .roots) end → now (keys .entry) ≡ registerKeys c → now (names .entry) ≡ nodeKeys c → now (places .entry) ≡ nodePlaces c → _≡_ {A = Lent} (record { registers = now (registers .exit); nodes = now (nodes .exit); rules = now (rules .exit); children = now (children .exit); root = now (root .exit) }) (filledFor attention c (record { registers = now (registers .entry); nodes = now (nodes .entry); rules = now (rules .entry); children = now (children .entry); root = now (root .entry) }))) ⌝ }
+    ensures { λ r. ⌜ ((c : Chip) (end : ℕ)
+        → fileAt (now (s .entry)) true 0 ≡ done c end
+        → rootsAt (now (s .entry)) true «roots_at» ≡ done (c .roots) end
+        → now (keys .entry) ≡ registerKeys c
+        → now (names .entry) ≡ nodeKeys c
+        → now (places .entry) ≡ nodePlaces c
+        → lent (now (registers .exit)) (now (nodes .exit)) (now (rules .exit)) (now (children .exit)) (now (root .exit))
+        ≡ filledBy attention c (lent (now (registers .entry)) (now (nodes .entry)) (now (rules .entry)) (now (children .entry)) (now (root .entry)))) ⌝ }
 {
     copy(keys, registers);
     copy(names, nodes);
@@ -59,16 +69,15 @@ fn fill_laid(
     children: &mut [u16],
     root: &mut [u64],
 )
-    ensures { λ r. ⌜ ((c : Chip) → done (laidOut l) (l .end) ≡ layoutAt (now (s .entry)) 0 → fileAt (now (s .entry)) true 0 ≡ done c (l .end) → _≡_ {A = Lent} (record { registers = now (registers .exit); nodes = now (nodes .exit); rules = now (rules .exit); children = now (children .exit); root = now (root .exit) }) (filledFor attention c (record { registers = now (registers .entry); nodes = now (nodes .entry); rules = now (rules .entry); children = now (children .entry); root = now (root .entry) }))) ⌝ }
+    requires { ⌜ Bounded l ⌝ }
+    ensures { λ r. ⌜ ((c : Chip)
+        → done (laidOut l) (l .end) ≡ layoutAt (now (s .entry)) 0
+        → fileAt (now (s .entry)) true 0 ≡ done c (l .end)
+        → lent (now (registers .exit)) (now (nodes .exit)) (now (rules .exit)) (now (children .exit)) (now (root .exit))
+        ≡ filledBy attention c (lent (now (registers .entry)) (now (nodes .entry)) (now (rules .entry)) (now (children .entry)) (now (root .entry)))) ⌝ }
 {
     let m = l.register_instances;
     let n = l.node_instances;
-    if format::REGISTER_LIMIT < m {
-        return;
-    }
-    if format::NODE_LIMIT < n {
-        return;
-    }
     let mut keys = [0u64; format::REGISTER_LIMIT];
     let mut kinds = [0u64; format::REGISTER_LIMIT];
     let mut spots = [0u64; format::REGISTER_LIMIT];
@@ -119,7 +128,9 @@ fn has_room(
     1 <= root
 }
 
-// The checker's answer; and the tables of an accepted file for a wanted attention type, where all of them are long enough: the names of its register instances and of its node instances, the places of the wanted rules, the children of each node instance, and the position of the wanted root. Otherwise every table keeps what it has.
+// The checker's answer, and the tables of an accepted file for a wanted attention type: the names of its register instances and of its node instances, the places of
+// the wanted rules, the children of each node instance, and the position of the wanted root. A table that is too short for the file is 43 at 0. Every refusal leaves
+// all tables as they are.
 pub fn prepare(
     file: &[u8],
     attention: u8,
@@ -129,8 +140,10 @@ pub fn prepare(
     children: &mut [u16],
     root: &mut [u64],
 ) -> Checked
-    ensures { λ r. ⌜ checkedValues r ≡ check (now (file .entry)) ⌝ }
-    ensures { λ r. ⌜ _≡_ {A = Lent} (record { registers = now (registers .exit); nodes = now (nodes .exit); rules = now (rules .exit); children = now (children .exit); root = now (root .exit) }) (prepared attention (verdict (now (file .entry))) (record { registers = now (registers .entry); nodes = now (nodes .entry); rules = now (rules .entry); children = now (children .entry); root = now (root .entry) })) ⌝ }
+    ensures { λ r. ⌜ checkedValues r
+        ≡ preparing (verdict (now (file .entry))) (lent (now (registers .entry)) (now (nodes .entry)) (now (rules .entry)) (now (children .entry)) (now (root .entry))) ⌝ }
+    ensures { λ r. ⌜ lent (now (registers .exit)) (now (nodes .exit)) (now (rules .exit)) (now (children .exit)) (now (root .exit))
+        ≡ prepared attention (verdict (now (file .entry))) (lent (now (registers .entry)) (now (nodes .entry)) (now (rules .entry)) (now (children .entry)) (now (root .entry))) ⌝ }
 {
     let e = examine(file);
     match e {
@@ -146,7 +159,10 @@ pub fn prepare(
                 fill_laid(file, l, attention, registers, nodes, rules, children, root);
                 return Checked::Accepted(summary(l));
             }
-            Checked::Accepted(summary(l))
+            Checked::Refused(Refusal {
+                kind: Kind::TableTooShort,
+                place: 0,
+            })
         }
         LayoutRead::Refused(r) => Checked::Refused(r),
     }

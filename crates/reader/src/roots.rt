@@ -7,8 +7,7 @@ use fields::byte_count_at;
 use fields::keyword_at;
 use fields::number_at;
 use fields::seen::new_attention_at;
-use format::Kind;
-use format::Refusal;
+use fields::version_at;
 use numbers::Width;
 ghost use mathlib.Core.Bool.{true};
 ghost use mathlib.Core.List.{List, [], map};
@@ -18,28 +17,8 @@ ghost use Rattle.format.specs.Parsed.{making, rowAt};
 ghost use Rattle.format.specs.Tree.{Root};
 ghost use Rattle.format.specs.FileLayout.{startAt, rootAt, rootsAt};
 ghost use Rattle.fields.specs.Seen.{unmarked, Tells};
-ghost use Rattle.reader.specs.Roots.{versionAt};
 ghost use Rattle.fields.specs.Views.{byteParsed, numberParsed, nextParsed, forget};
 ghost use Rattle.reader.specs.Roots.{rootAttention};
-
-// The version: 1.
-fn version_at(s: &[u8], at: usize) -> ByteRead
-    ensures { λ r. ⌜ byteParsed r ≡ versionAt (now (s .entry)) at ⌝ }
-{
-    let b = byte_at(s, at);
-    match b {
-        ByteRead::Byte(version, next) => {
-            if version == 1 {
-                return ByteRead::Byte(version, next);
-            }
-            ByteRead::Refused(Refusal {
-                kind: Kind::WrongVersion,
-                place: at,
-            })
-        }
-        ByteRead::Refused(r) => ByteRead::Refused(r),
-    }
-}
 
 // The start of a file: its model/level.
 pub fn start_at(s: &[u8], at: usize) -> NumberRead
@@ -66,7 +45,9 @@ pub fn start_at(s: &[u8], at: usize) -> NumberRead
 
 // A root: its attention type. `seen` marks the attention types of the roots before it.
 fn root_at(s: &[u8], at: usize, seen: &[u8]) -> ByteRead
-    ensures { λ r. ⌜ ((before : List Root) → Tells (unmarked (now (seen .entry))) (map rootAttention before) → byteParsed r ≡ making rootAttention (rootAt (now (s .entry)) true before at)) ⌝ }
+    ensures { λ r. ⌜ ((before : List Root)
+        → Tells (unmarked (now (seen .entry))) (map rootAttention before)
+        → byteParsed r ≡ making rootAttention (rootAt (now (s .entry)) true before at)) ⌝ }
 {
     let b = new_attention_at(s, at, seen);
     match b {

@@ -5,8 +5,7 @@ use mathlib.Core.List.{List, [], _∷_, map}
 use mathlib.Core.Path.{_≡_, refl, sym, _∙_, ap}
 use native.Mathlib.Omega.{arith}
 use lib.ListN.{length, length-map}
-use Rattle.numbers.specs.BigEndian.{bytesOf}
-use Rattle.numbers.proofs.BigEndianLaws.{Bytes}
+use Rattle.numbers.specs.BigEndian.{bytesOf, Bytes}
 use Rattle.format.specs.Lookup.{RegisterEntry, registerEntries}
 use Rattle.format.specs.Rules.{Every}
 use Rattle.format.specs.Tree.{Chip}

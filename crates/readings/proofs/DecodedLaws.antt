@@ -9,7 +9,8 @@ use borrow.Author.Tests.{eq-eqb, eqb-true, le-leb, leb-true, le-ltb}
 use lib.Dec.{lit<, eqb, leb, ltb}
 use lib.ListN.{length, drop, getD}
 use Rattle.numbers.specs.Field.{field}
-use Rattle.numbers.proofs.BigEndianLaws.{Bytes, bytes-drop}
+use Rattle.numbers.specs.BigEndian.{Bytes}
+use Rattle.numbers.proofs.BigEndianLaws.{bytes-drop}
 use Rattle.numbers.proofs.Bools.{and-left, and-right, and-both, or-left, or-right, or-cases}
 use Rattle.numbers.proofs.FieldLaws.{field-lt}
 use Rattle.format.specs.Lookup.{some}

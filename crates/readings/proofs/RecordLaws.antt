@@ -1,6 +1,6 @@
 -- The laws of a record at a place, of records one after another, and of decoding.
 use Prim.Native.Nat.{ℕ, suc, _+_, _*_, _/_, _%_, _≤_, _<_}
-use mathlib.Core.Bool.{Bool, true, false, _&&_, _||_}
+use mathlib.Core.Bool.{Bool, true, false, cond, _&&_, _||_}
 use mathlib.Core.List.{List, [], _∷_}
 use mathlib.Core.Path.{_≡_, refl, sym, _∙_, ap}
 use native.Mathlib.Nat.{add-zero}
@@ -10,28 +10,16 @@ use borrow.Author.Tests.{eq-eqb, ne-eqb, eqb-true, le-leb, lt-leb}
 use lib.Dec.{eqb, leb}
 use lib.ListN.{length, drop, getD, set, length-set, drop-of-length-le}
 use lib.Seq.{drop-cons, drop-drop}
-use Rattle.numbers.specs.declared.NumberRead
-use Rattle.numbers.specs.declared.NumberRead.{NumberRead}
-use Rattle.numbers.specs.Field.{field, numberAt}
+use Rattle.numbers.specs.Field.{field}
 use Rattle.numbers.proofs.Bools.{and-left, and-right}
-use Rattle.numbers.proofs.FieldLaws.{present-yes, field-byte, field-drop}
+use Rattle.numbers.proofs.FieldLaws.{field-byte, field-drop}
+use Rattle.format.specs.declared.Refusal.{Refusal}
+use Rattle.format.proofs.NumberedLaws.{kind-some}
 use Rattle.tables.specs.Tables.{written}
 use Rattle.tables.proofs.TablesLaws.{written-front}
-use Rattle.readings.specs.ReadingsFile.{readByte, valueIn, recordFits, recordsFit, fileFits, eachRecord, decodes, lentAfter}
-
--- A number that is wholly there.
-
-pub number-there : (s : List ℕ) (at n : ℕ) {v m : ℕ} → at + n ≤ length s → NumberRead.Number v m ≡ numberAt s at n → v ≡ field s at n
-unfolding numberAt
-number-there s at n {v} {m} h e =
-    let d : NumberRead.Number v m ≡ NumberRead.Number (field s at n) (at + n) = e ∙ simp (present-yes s at n h) in
-    cc
-
-pub number-not-cut : {A : Type 0} (s : List ℕ) (at n : ℕ) → at + n ≤ length s → NumberRead.Cut ≡ numberAt s at n → A
-unfolding numberAt
-number-not-cut s at n h e =
-    let d : NumberRead.Cut ≡ NumberRead.Number (field s at n) (at + n) = e ∙ simp (present-yes s at n h) in
-    let z : _≡_ {A = ℕ} 0 1 = cc in absurd (omega arith)
+use Rattle.readings.specs.declared.Decoded
+use Rattle.readings.specs.declared.Decoded.{Decoded}
+use Rattle.readings.specs.ReadingsFile.{readByte, valueIn, recordFits, recordsFit, fileFits, eachRecord, roomFor, decodes, DecodedValues, decodedValues, decoding, lentAfter}
 
 -- The read byte of the record at a place.
 byte-at-place : (s : List ℕ) (at : ℕ) → at + 16 ≤ length s → getD s (at + 4) 0 ≡ readByte (drop at s)
@@ -156,26 +144,57 @@ module _ (keys bytes : List ℕ) where
   unfolding fileFits
   file-records e = and-right (eqb (length bytes) (16 * length keys)) _ e
 
--- Decoding.
+-- Decoding: the answer, and whether it succeeds.
 module _ (keys bytes words read : List ℕ) where
-  pub no-words : length words < length keys → false ≡ decodes keys bytes words read
-  unfolding decodes
-  no-words h = rw (lt-leb _ _ h)
+  abbrev Decides : ℕ → Bool → Type 0
+  Decides n t = (record { number = n; place = 0 } ≡ decoding keys bytes words read) × (t ≡ decodes keys bytes words read)
+
+  pub no-words : length words < length keys → Decides 43 false
+  unfolding decoding decodes roomFor
+  no-words h = (rw (lt-leb _ _ h), rw (lt-leb _ _ h))
 
   module _ (h : length keys ≤ length words) where
-    pub no-read : length read < length keys → false ≡ decodes keys bytes words read
-    unfolding decodes
-    no-read k = rw (le-leb _ _ h, lt-leb _ _ k)
+    pub no-read : length read < length keys → Decides 43 false
+    unfolding decoding decodes roomFor
+    no-read k = (rw (le-leb _ _ h, lt-leb _ _ k), rw (le-leb _ _ h, lt-leb _ _ k))
 
-    pub has-room : length keys ≤ length read → {t r : Bool} → t ≡ fileFits keys bytes → r ≡ t → r ≡ decodes keys bytes words read
-    unfolding decodes
-    has-room k e d = rw (le-leb _ _ h, le-leb _ _ k, ← e) d
+    module _ (k : length keys ≤ length read) where
+      pub no-fit : fileFits keys bytes ≡ false → Decides 17 false
+      unfolding decoding decodes roomFor
+      no-fit e = (rw (le-leb _ _ h, le-leb _ _ k, e), rw (le-leb _ _ h, le-leb _ _ k, e))
 
-pub lent-kept : (xs lent : List ℕ) → lent ≡ lentAfter false xs lent
+      pub all-fit : fileFits keys bytes ≡ true → Decides 0 true
+      unfolding decoding decodes roomFor
+      all-fit e = (rw (le-leb _ _ h, le-leb _ _ k, e), rw (le-leb _ _ h, le-leb _ _ k, e))
+
+  -- What the answer says.
+  abbrev chosen : Bool → Bool → DecodedValues
+  chosen r f = cond r (cond f (record { number = 0; place = 0 }) (record { number = 17; place = 0 })) (record { number = 43; place = 0 })
+
+  decided : (r f : Bool) (v : DecodedValues) → v ≡ chosen r f → v .number ≡ 0 → r && f ≡ true
+  decided true true v e z = refl
+  decided true false v e z = let y : v .number ≡ 17 = ap (λ x. x .number) e in absurd (omega arith)
+  decided false f v e z = let y : v .number ≡ 43 = ap (λ x. x .number) e in absurd (omega arith)
+
+  undecided : (r f : Bool) (v : DecodedValues) → v ≡ chosen r f → 0 < v .number → r && f ≡ false
+  undecided true true v e z = let y : v .number ≡ 0 = ap (λ x. x .number) e in absurd (omega arith)
+  undecided true false v e z = refl
+  undecided false f v e z = refl
+
+  pub decoded-yes : decodedValues Decoded.Read ≡ decoding keys bytes words read → decodes keys bytes words read ≡ true
+  unfolding decoding decodes
+  decoded-yes e = decided (roomFor keys words read) (fileFits keys bytes) _ e refl
+
+  pub decoded-no : (r : Refusal) → decodedValues (Decoded.Refused r) ≡ decoding keys bytes words read → decodes keys bytes words read ≡ false
+  unfolding decoding decodes
+  decoded-no r e = undecided (roomFor keys words read) (fileFits keys bytes) _ e (kind-some (r .kind))
+
+pub lent-kept : (xs lent : List ℕ) {t : Bool} → false ≡ t → lent ≡ lentAfter t xs lent
 unfolding lentAfter
-lent-kept xs lent = refl
+lent-kept xs lent e = rw (← e)
 
-pub lent-put : (want : List ℕ → ℕ) (keys bytes lent : List ℕ) {u : List ℕ} → length keys ≤ length lent → u ≡ written lent 0 (eachRecord want keys bytes)
-    → u ≡ lentAfter true (eachRecord want keys bytes) lent
+pub lent-put : (want : List ℕ → ℕ) (keys bytes lent : List ℕ) {u : List ℕ} {t : Bool} → true ≡ t → length keys ≤ length lent → u ≡ written lent 0 (eachRecord want keys bytes)
+    → u ≡ lentAfter t (eachRecord want keys bytes) lent
 unfolding lentAfter
-lent-put want keys bytes lent h e = e ∙ written-front lent (eachRecord want keys bytes) (omega (arith, each-length want keys bytes))
+lent-put want keys bytes lent d h e =
+    e ∙ written-front lent (eachRecord want keys bytes) (omega (arith, each-length want keys bytes)) ∙ ap (λ b. lentAfter b (eachRecord want keys bytes) lent) d

@@ -8,44 +8,44 @@ use borrow.Author.Tests.{eq-eqb, ltb-false}
 use lib.Dec.{lit<, ltb}
 use lib.ListN.{length, take, drop, getD, length-drop, take-append-drop}
 use lib.Seq.{drop-drop, length-take-le}
-use Rattle.numbers.specs.BigEndian.{bigEndian, bytesOf}
+use Rattle.numbers.specs.BigEndian.{bigEndian, bytesOf, Bytes}
 use Rattle.numbers.specs.Field.{field}
-use Rattle.numbers.proofs.BigEndianLaws.{Bytes, bytes-take, bytes-drop, read-written, written-read, bytes-bytes}
+use Rattle.numbers.proofs.BigEndianLaws.{bytes-take, bytes-drop, read-written, written-read, bytes-bytes}
 use Rattle.numbers.proofs.Bools.{and-both}
 use Rattle.format.specs.Lookup.{some}
 use Rattle.format.specs.Rules.{Every}
 use Rattle.format.proofs.EveryLaws.{or-false-left, or-false-right}
-use Rattle.readings.specs.ReadingsFile.{recordOf, fileOf, keyFile, Holdable, readByte, valueIn, recordsFit, fileFits, eachRecord, wordsOf, readOf}
+use Rattle.readings.specs.ReadingsFile.{readingRecord, fileOf, keyFile, Holdable, readByte, valueIn, recordsFit, fileFits, eachRecord, wordsOf, readOf}
 use Rattle.readings.proofs.RecordLaws.{file-size, file-records}
 use Rattle.readings.proofs.DecodedLaws.{Fits, fits-in, first-fits, others-fit}
 
 -- The record of a key, and what is read of it.
 module _ (k r w : ℕ) (rest : List ℕ) where
   abbrev written-record : List ℕ
-  written-record = recordOf (bytesOf 4 k) r w ++ rest
+  written-record = readingRecord (bytesOf 4 k) r w ++ rest
 
   record-name : k < 256 ^ 4 → field written-record 0 4 ≡ k
-  unfolding recordOf bytesOf field
+  unfolding readingRecord bytesOf field
   record-name h = read-written 4 k h
 
   record-byte : r < 256 → readByte written-record ≡ r
-  unfolding recordOf bytesOf field readByte
+  unfolding readingRecord bytesOf field readByte
   record-byte h = read-written 1 r h
 
   record-zeros : field written-record 5 3 ≡ 0
-  unfolding recordOf bytesOf field
+  unfolding readingRecord bytesOf field
   record-zeros = read-written 3 0 (lit< tt)
 
   record-value : w < 256 ^ 8 → valueIn written-record ≡ w
-  unfolding recordOf bytesOf field valueIn
+  unfolding readingRecord bytesOf field valueIn
   record-value h = read-written 8 w h
 
   record-rest : drop 16 written-record ≡ rest
-  unfolding recordOf bytesOf
+  unfolding readingRecord bytesOf
   record-rest = refl
 
   record-length : length written-record ≡ 16 + length rest
-  unfolding recordOf bytesOf
+  unfolding readingRecord bytesOf
   record-length = omega arith
 
   record-fits : k < 256 ^ 4 → r ≤ 1 → w < 256 ^ 8 → (r ≡ 0 → w ≡ 0) → Fits k written-record
@@ -113,8 +113,8 @@ bytes-append [] ys h k i = k i
 bytes-append (x ∷ xs) ys h k zero = h 0
 bytes-append (x ∷ xs) ys h k (suc i) = bytes-append xs ys (λ j. h (suc j)) k i
 
-record-bytes : (k r w : ℕ) → Bytes (recordOf (bytesOf 4 k) r w)
-unfolding recordOf
+record-bytes : (k r w : ℕ) → Bytes (readingRecord (bytesOf 4 k) r w)
+unfolding readingRecord
 record-bytes k r w =
     bytes-append (bytesOf 4 k) (bytesOf 1 r ++ (bytesOf 3 0 ++ bytesOf 8 w)) (bytes-bytes 4 k)
     (bytes-append (bytesOf 1 r) (bytesOf 3 0 ++ bytesOf 8 w) (bytes-bytes 1 r) (bytes-append (bytesOf 3 0) (bytesOf 8 w) (bytes-bytes 3 0) (bytes-bytes 8 w)))
@@ -123,7 +123,7 @@ pub written-bytes : (keys words read : List ℕ) → Bytes (keyFile keys words r
 unfolding keyFile fileOf
 written-bytes [] words read = λ i. lit< tt
 written-bytes (k ∷ keys) words read =
-    bytes-append (recordOf (bytesOf 4 k) (getD read 0 0) (getD words 0 0)) (keyFile keys (drop 1 words) (drop 1 read))
+    bytes-append (readingRecord (bytesOf 4 k) (getD read 0 0) (getD words 0 0)) (keyFile keys (drop 1 words) (drop 1 read))
     (record-bytes k (getD read 0 0) (getD words 0 0)) (written-bytes keys (drop 1 words) (drop 1 read))
 
 -- A field that is wholly there is written as the bytes that it was read from.
@@ -136,8 +136,8 @@ field-written s at n h l =
 part-next : (s : List ℕ) (at n : ℕ) → take n (drop at s) ++ drop (at + n) s ≡ drop at s
 part-next s at n = rw (← drop-drop n at s) (take-append-drop n (drop at s))
 
-record-again : (k : ℕ) (s : List ℕ) → Bytes s → 16 ≤ length s → Fits k s → recordOf (bytesOf 4 k) (readByte s) (valueIn s) ++ drop 16 s ≡ s
-unfolding recordOf readByte valueIn
+record-again : (k : ℕ) (s : List ℕ) → Bytes s → 16 ≤ length s → Fits k s → readingRecord (bytesOf 4 k) (readByte s) (valueIn s) ++ drop 16 s ≡ s
+unfolding readingRecord readByte valueIn
 record-again k s h l f =
     let a : bytesOf 4 k ≡ take 4 (drop 0 s) = ap (bytesOf 4) (sym (f .name)) ∙ field-written s 0 4 h (omega arith) in
     let z : bytesOf 3 0 ≡ take 3 (drop 5 s) = ap (bytesOf 3) (sym (f .zeros)) ∙ field-written s 5 3 h (omega arith) in
@@ -153,7 +153,7 @@ again [] [] h l e = refl
 again [] (b ∷ bytes) h l e = absurd (omega arith)
 again (k ∷ keys) bytes h l e =
     let r = again keys (drop 16 bytes) (bytes-drop 16 bytes h) (omega (arith, length-drop 16 bytes)) (others-fit k keys bytes e) in
-    ap (λ t. recordOf (bytesOf 4 k) (readByte bytes) (valueIn bytes) ++ t) r ∙ record-again k bytes h (omega arith) (first-fits k keys bytes e)
+    ap (λ t. readingRecord (bytesOf 4 k) (readByte bytes) (valueIn bytes) ++ t) r ∙ record-again k bytes h (omega arith) (first-fits k keys bytes e)
 
 pub read-is-written : (keys bytes : List ℕ) → Bytes bytes → fileFits keys bytes ≡ true → keyFile keys (wordsOf keys bytes) (readOf keys bytes) ≡ bytes
 read-is-written keys bytes h e = again keys bytes h (file-size keys bytes e) (file-records keys bytes e)

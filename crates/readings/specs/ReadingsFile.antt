@@ -1,7 +1,7 @@
 -- The readings file. Document 01: "The readings file has records of one fixed size, no header: 16 bytes each, being register ID (3), instance, read byte, three
 -- zeros, value (8; zero if unread), in the register instances' file order. Its numbers and the list's are big-endian."
 use Prim.Native.Nat.{ℕ, _*_, _^_, _<_}
-use mathlib.Core.Bool.{Bool, true, false, _&&_, _||_}
+use mathlib.Core.Bool.{Bool, true, false, cond, _&&_, _||_}
 use mathlib.Core.List.{List, [], _∷_, _++_, map}
 use mathlib.Core.Path.{_≡_}
 use lib.Dec.{leb, ltb, eqb}
@@ -9,11 +9,14 @@ use lib.ListN.{length, getD, drop}
 use Rattle.numbers.specs.BigEndian.{bytesOf}
 use Rattle.numbers.specs.Field.{field}
 use Rattle.format.specs.Lookup.{RegisterEntry, registerEntries, some}
+use Rattle.format.specs.Refusals.{numberOf}
 use Rattle.format.specs.Tree.{Chip}
+use Rattle.readings.specs.declared.Decoded
+use Rattle.readings.specs.declared.Decoded.{Decoded}
 
 -- "Records of one fixed size, no header: 16 bytes each".
-abbrev pub recordSize : ℕ
-recordSize = 16
+abbrev pub readingSize : ℕ
+readingSize = 16
 
 -- Writing
 
@@ -22,13 +25,13 @@ unfoldable pub nameOf : RegisterEntry → List ℕ
 nameOf e = bytesOf 3 (e .id) ++ bytesOf 1 (e .instance .number)
 
 -- A record: a name, "read byte, three zeros, value (8)".
-unfoldable pub recordOf : List ℕ → ℕ → ℕ → List ℕ
-recordOf name read word = name ++ (bytesOf 1 read ++ (bytesOf 3 0 ++ bytesOf 8 word))
+unfoldable pub readingRecord : List ℕ → ℕ → ℕ → List ℕ
+readingRecord name read word = name ++ (bytesOf 1 read ++ (bytesOf 3 0 ++ bytesOf 8 word))
 
 -- A record for each name, in order.
 unfoldable pub fileOf : List (List ℕ) → List ℕ → List ℕ → List ℕ
 fileOf [] words read = []
-fileOf (n ∷ names) words read = recordOf n (getD read 0 0) (getD words 0 0) ++ fileOf names (drop 1 words) (drop 1 read)
+fileOf (n ∷ names) words read = readingRecord n (getD read 0 0) (getD words 0 0) ++ fileOf names (drop 1 words) (drop 1 read)
 
 -- The file of a chip's readings: "in the register instances' file order".
 unfoldable pub chipFile : Chip → List ℕ → List ℕ → List ℕ
@@ -62,16 +65,16 @@ recordFits key bs = eqb (field bs 0 4) key && (leb (readByte bs) 1 && (eqb (fiel
 -- Every key's record is one for it.
 unfoldable pub recordsFit : List ℕ → List ℕ → Bool
 recordsFit [] bytes = true
-recordsFit (k ∷ keys) bytes = recordFits k bytes && recordsFit keys (drop recordSize bytes)
+recordsFit (k ∷ keys) bytes = recordFits k bytes && recordsFit keys (drop readingSize bytes)
 
 -- A file for these keys. Document 01, number 17: "for the readings file also a wrong size, ID, instance, zero byte or unread value".
 unfoldable pub fileFits : List ℕ → List ℕ → Bool
-fileFits keys bytes = eqb (length bytes) (recordSize * length keys) && recordsFit keys bytes
+fileFits keys bytes = eqb (length bytes) (readingSize * length keys) && recordsFit keys bytes
 
 -- What is wanted of each key's record.
 unfoldable pub eachRecord : (List ℕ → ℕ) → List ℕ → List ℕ → List ℕ
 eachRecord want [] bytes = []
-eachRecord want (k ∷ keys) bytes = want bytes ∷ eachRecord want keys (drop recordSize bytes)
+eachRecord want (k ∷ keys) bytes = want bytes ∷ eachRecord want keys (drop readingSize bytes)
 
 -- The value of each key's record, and its read byte.
 abbrev pub wordsOf : List ℕ → List ℕ → List ℕ
@@ -82,9 +85,29 @@ readOf = eachRecord readByte
 
 -- Decoding
 
--- The file fits, and both lent lists have a place for each key.
+-- Both lent lists have a place for each key.
+unfoldable pub roomFor : List ℕ → List ℕ → List ℕ → Bool
+roomFor keys words read = leb (length keys) (length words) && leb (length keys) (length read)
+
+-- Decoding succeeds: there is room, and the file fits.
 unfoldable pub decodes : List ℕ → List ℕ → List ℕ → List ℕ → Bool
-decodes keys bytes words read = leb (length keys) (length words) && (leb (length keys) (length read) && fileFits keys bytes)
+decodes keys bytes words read = roomFor keys words read && fileFits keys bytes
+
+-- The answer in the paper's numbers: number 0, or a refusal.
+pub record DecodedValues : Type 0 where
+  pub number : ℕ
+  pub place : ℕ
+
+abbrev pub decodedValues : Decoded → DecodedValues
+decodedValues Decoded.Read = record { number = 0; place = 0 }
+decodedValues (Decoded.Refused r) = record { number = numberOf (r .kind); place = r .place }
+
+-- 43 where a lent list has no place for each key, then 17 where the file does not fit.
+unfoldable pub decoding : List ℕ → List ℕ → List ℕ → List ℕ → DecodedValues
+decoding keys bytes words read =
+    cond (roomFor keys words read)
+    (cond (fileFits keys bytes) (record { number = 0; place = 0 }) (record { number = 17; place = 0 }))
+    (record { number = 43; place = 0 })
 
 -- A lent list after decoding: what was decoded in its first places and the others as they were, or all as it was.
 unfoldable pub lentAfter : Bool → List ℕ → List ℕ → List ℕ

@@ -1,4 +1,6 @@
 // The readings file: words and read bytes from its records, one record for each register instance.
+use format::Kind;
+use format::Refusal;
 use numbers::NumberRead;
 use numbers::Width;
 use numbers::number_at;
@@ -7,7 +9,7 @@ ghost use mathlib.Core.Path.{_≡_};
 ghost use lib.ListN.{length, drop};
 ghost use Rattle.numbers.specs.Field.{sizeOf, field};
 ghost use Rattle.tables.specs.Tables.{written};
-ghost use Rattle.readings.specs.ReadingsFile.{recordFits, recordsFit, fileFits, wordsOf, readOf, decodes, lentAfter};
+ghost use Rattle.readings.specs.ReadingsFile.{recordFits, recordsFit, fileFits, wordsOf, readOf, decodes, decodedValues, decoding, lentAfter};
 
 // The number at a place where it is wholly there.
 fn value_at(s: &[u8], at: usize, w: Width) -> u64
@@ -100,24 +102,41 @@ fn put_read(bytes: &[u8], keys: &[u64], read: &mut [u8])
     }
 }
 
-// Decodes a readings file: `keys` are those of the register instances in file order. It answers whether the file fits them and both lent lists have a place for
-// each; then the first places of `words` and `read` hold the values and the read bytes. Where it answers false, no lent place changes. It reads each record twice:
-// to check it, and to write.
-pub fn decode(bytes: &[u8], keys: &[u64], words: &mut [u64], read: &mut [u8]) -> bool
-    ensures answer { λ r. ⌜ r ≡ decodes (now (keys .entry)) (now (bytes .entry)) (now (words .entry)) (now (read .entry)) ⌝ }
-    ensures words { λ r. ⌜ now (words .exit) ≡ lentAfter r (wordsOf (now (keys .entry)) (now (bytes .entry))) (now (words .entry)) ⌝ }
-    ensures read { λ r. ⌜ now (read .exit) ≡ lentAfter r (readOf (now (keys .entry)) (now (bytes .entry))) (now (read .entry)) ⌝ }
+// The answer of decoding a readings file.
+pub enum Decoded {
+    Read,
+    Refused(Refusal),
+}
+
+// Decodes a readings file: `keys` are those of the register instances in file order. The first places of `words` and `read` then hold the values and the read bytes.
+// A lent list without a place for each key is 43 at 0, and a file that does not fit the keys is 17 at 0; no lent place changes then. It reads each record twice: to
+// check it, and to write.
+pub fn decode(bytes: &[u8], keys: &[u64], words: &mut [u64], read: &mut [u8]) -> Decoded
+    ensures answer { λ r. ⌜ decodedValues r ≡ decoding (now (keys .entry)) (now (bytes .entry)) (now (words .entry)) (now (read .entry)) ⌝ }
+    ensures words { λ r. ⌜ now (words .exit)
+        ≡ lentAfter (decodes (now (keys .entry)) (now (bytes .entry)) (now (words .entry)) (now (read .entry))) (wordsOf (now (keys .entry)) (now (bytes .entry))) (now (words .entry)) ⌝ }
+    ensures read { λ r. ⌜ now (read .exit)
+        ≡ lentAfter (decodes (now (keys .entry)) (now (bytes .entry)) (now (words .entry)) (now (read .entry))) (readOf (now (keys .entry)) (now (bytes .entry))) (now (read .entry)) ⌝ }
 {
     if words.len() < keys.len() {
-        return false;
+        return Decoded::Refused(Refusal {
+            kind: Kind::TableTooShort,
+            place: 0,
+        });
     }
     if read.len() < keys.len() {
-        return false;
+        return Decoded::Refused(Refusal {
+            kind: Kind::TableTooShort,
+            place: 0,
+        });
     }
     if !file_fits(bytes, keys) {
-        return false;
+        return Decoded::Refused(Refusal {
+            kind: Kind::ReadingsUnfit,
+            place: 0,
+        });
     }
     put_words(bytes, keys, words);
     put_read(bytes, keys, read);
-    true
+    Decoded::Read
 }

@@ -1,7 +1,7 @@
 -- The laws of faults by tables.
 pub mod JudgingLaws
 pub mod PartsLaws
-pub mod KeysLaws
+pub mod KindLaws
 pub mod TablesLaws
 pub mod ScanLaws
 pub mod RootsLaws

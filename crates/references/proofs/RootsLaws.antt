@@ -33,8 +33,8 @@ use Rattle.references.specs.declared.roots.RootEntry.{RootEntry}
 use Rattle.references.specs.FaultsIn.{ruled, rootFaultsIn}
 use Rattle.references.specs.RootIn.{rootPosition, rootOf}
 use Rattle.tables.proofs.ColumnLaws.{column-at}
-use Rattle.references.proofs.KeysLaws.{some-position, some-out}
-use Rattle.references.proofs.TablesLaws.{node-position-in}
+use Rattle.format.proofs.PositionsLaws.{some-position, some-out}
+use Rattle.tables.proofs.KeysLaws.{node-position-in}
 
 module _ (nodes places : List ℕ) (attention id number : ℕ) {k : ℕ} (found : k ≡ positionIn nodes id number) (es : List NodeEntry) where
   pub root-absent : (p next : ℕ) → places ≡ map entryPlace es → length places ≤ k → refused 12 p ≡ judgedAt (unless (ruled nodes es attention id number) 12 p) next

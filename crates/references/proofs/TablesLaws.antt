@@ -9,60 +9,24 @@ use lib.Dec.{eqb, ltb}
 use lib.ListN.{length, getD, length-map, List·getD-eq-default}
 use borrow.Author.Tests.{ne-eqb, lt-ltb, ltb-true, ltb-false}
 use Rattle.numbers.proofs.Bools.{either, clash, and-left, and-right, and-both, same-truth}
-use Rattle.format.specs.Lookup.{some, position, at, registerEntries, entriesOf, registerNamed, NodeEntry, nodeEntries, nodeEntriesOf, nodeNamed, registerPosition}
-use Rattle.format.specs.References.{Named, namedBy, fits, hasRegister, hasNode, captureFaults, namedFaults, ruleFaults, childFaults, instanceFaults}
+use Rattle.format.specs.Lookup.{some, position, at, registerEntries, registerNamed, NodeEntry, nodeEntries, registerPosition}
+use Rattle.format.specs.References.{Named, namedBy, fits, captureFaults, namedFaults, ruleFaults, childFaults, instanceFaults}
 use Rattle.format.specs.Rules.{Every, ExprFits, FieldsFit, NamesUnique, allCaptures, allRules, allChildren}
 use Rattle.format.specs.Tree.{Capture, Rule, Child, Chip}
-use Rattle.format.proofs.EveryLaws.{every-all, every-map, every-both, every-list-in, every-gathered-in, every-gathered-out}
+use Rattle.format.proofs.EveryLaws.{every-map, every-both, every-gathered-out}
 use Rattle.format.proofs.GatheredLaws.{gathered-same}
 use Rattle.format.proofs.PositionsLaws.{every-at, position-at, some-at, register-position}
-use Rattle.tables.specs.Tables.{keyOf}
-use Rattle.tables.specs.Faults.{positionIn, present, nameFaults}
+use Rattle.tables.specs.Faults.{positionIn, nameFaults}
 use Rattle.tables.specs.Keys.{registerKeys, nodeKeys}
 use Rattle.tables.proofs.ColumnLaws.{column-at}
 use Rattle.index.specs.Rows.{kindOf, wantedKind}
 use Rattle.index.specs.Columns.{registerKinds}
 use Rattle.references.specs.FaultsIn.{captureFaultsIn, ruleFaultsIn, childFaultsIn, instanceFaultsIn}
-use Rattle.references.proofs.KeysLaws.{kind-same, position-keys, some-position, some-out, Fitting, names-fit}
+use Rattle.tables.proofs.KeysLaws.{Fitting, names-fit, registers-fit, register-position-in, register-present, node-present}
+use Rattle.format.proofs.PositionsLaws.{some-position, some-out}
+use Rattle.references.proofs.KindLaws.{kind-same}
 
 module _ (c : Chip) (fit : FieldsFit c) where
-  pub registers-fit : Every (λ e. (e .id < 256 ^ 3) × (e .flags < 256)) (registerEntries c)
-  unfolding registerEntries entriesOf
-  registers-fit =
-      every-gathered-in _ entriesOf (c .registers)
-      (every-map _ _ (λ r h. every-list-in _ _ (r .instances) (every-all _ (λ i. (h .0, h .1)) (r .instances))) (c .registers) (fit .registers))
-
-  register-names : Every (λ e. (e .id < 256 ^ 3) × (e .instance .number < 256)) (registerEntries c)
-  register-names = every-map _ _ (λ e h. (h .0 .0, h .1 .0)) (registerEntries c) (every-both _ _ (registerEntries c) registers-fit (fit .registerInstances))
-
-  pub nodes-fit : Every (λ e. e .id < 256 ^ 2) (nodeEntries c)
-  unfolding nodeEntries nodeEntriesOf
-  nodes-fit =
-      every-gathered-in _ nodeEntriesOf (c .nodes)
-      (every-map _ _ (λ n h. every-list-in _ _ (n .instances) (every-all _ (λ i. h .0) (n .instances))) (c .nodes) (fit .nodes))
-
-  node-names : Every (λ e. (e .id < 256 ^ 3) × (e .instance .number < 256)) (nodeEntries c)
-  node-names = every-map _ _ (λ e h. (omega (arith, h .0), h .1 .0)) (nodeEntries c) (every-both _ _ (nodeEntries c) nodes-fit (fit .nodeInstances))
-
-  -- A name's position by key is its position.
-  pub register-position-in : (id number : ℕ) → id < 256 ^ 3 → number < 256 → positionIn (registerKeys c) id number ≡ position (registerNamed id number) (registerEntries c)
-  unfolding positionIn registerNamed
-  register-position-in id number hi hn = position-keys (λ e. e .id) (λ e. e .instance .number) id number hi hn (registerEntries c) register-names
-
-  pub node-position-in : (id number : ℕ) → id < 256 ^ 3 → number < 256 → positionIn (nodeKeys c) id number ≡ position (nodeNamed id number) (nodeEntries c)
-  unfolding positionIn nodeNamed
-  node-position-in id number hi hn = position-keys (λ e. e .id) (λ e. e .instance .number) id number hi hn (nodeEntries c) node-names
-
-  pub register-present : (id number : ℕ) → id < 256 ^ 3 → number < 256 → present (registerKeys c) id number ≡ hasRegister c id number
-  unfolding present hasRegister
-  register-present id number hi hn =
-      rw (register-position-in id number hi hn, length-map (registerEntries c) (λ e. keyOf (e .id) (e .instance .number))) (sym (some-position _ (registerEntries c)))
-
-  pub node-present : (id number : ℕ) → id < 256 ^ 3 → number < 256 → present (nodeKeys c) id number ≡ hasNode c id number
-  unfolding present hasNode
-  node-present id number hi hn =
-      rw (node-position-in id number hi hn, length-map (nodeEntries c) (λ e. keyOf (e .id) (e .instance .number))) (sym (some-position _ (nodeEntries c)))
-
   module _ (unique : NamesUnique c) where
     -- The kind at a name's position is the wanted one exactly when the register fits.
     module _ (type id number : ℕ) where
@@ -74,7 +38,7 @@ module _ (c : Chip) (fit : FieldsFit c) where
           let d = position-at (registerNamed id number) (registerEntries c) (some-position (registerNamed id number) (registerEntries c) ∙ lt-ltb _ _ h) in
           let e = d .0 in
           let k : getD (registerKinds c) (position (registerNamed id number) (registerEntries c)) 0 ≡ kindOf (e .type) (e .flags) = column-at (λ e. kindOf (e .type) (e .flags)) (registerEntries c) _ (d .1) in
-          let f = every-at _ _ (registerEntries c) registers-fit (d .1) in
+          let f = every-at _ _ (registerEntries c) (registers-fit c fit) (d .1) in
           rw (k, kind-same (e .type) (e .flags) type (f .1))
           (same-truth _ _
           (λ q. some-at _ _ (registerEntries c) (d .1) (and-both (d .2) q))
@@ -104,13 +68,13 @@ module _ (c : Chip) (fit : FieldsFit c) where
           → eqb (getD (registerKinds c) (positionIn (registerKeys c) id number) 0) (wantedKind type)
           ≡ some (λ e. registerNamed id number e && fits type e) (registerEntries c)
       kind-fits hi hn =
-          rw (register-position-in id number hi hn)
+          rw (register-position-in c fit id number hi hn)
           (⊎-elim (λ h. kind-inside (ltb-true _ _ h)) (λ h. kind-outside (ltb-false _ _ h))
           (either (ltb (position (registerNamed id number) (registerEntries c)) (length (registerEntries c)))))
 
     named-same : (type : ℕ) (n : Named) → Fitting n → nameFaults (registerKeys c) (registerKinds c) (wantedKind type) n ≡ namedFaults c type n
     unfolding nameFaults namedFaults
-    named-same type n h = rw (register-present (n .id) (n .number) (h .0) (h .1), kind-fits type (n .id) (n .number) (h .0) (h .1))
+    named-same type n h = rw (register-present c fit (n .id) (n .number) (h .0) (h .1), kind-fits type (n .id) (n .number) (h .0) (h .1))
 
     rule-same : (type : ℕ) (r : Rule) → ExprFits (r .expression) → ruleFaultsIn (registerKeys c) (registerKinds c) (wantedKind type) r ≡ ruleFaults c type r
     unfolding ruleFaultsIn ruleFaults
@@ -119,11 +83,11 @@ module _ (c : Chip) (fit : FieldsFit c) where
 
     capture-same : (k : Capture) → (k .id < 256 ^ 3) × (k .number < 256) → captureFaultsIn (registerKeys c) k ≡ captureFaults c k
     unfolding captureFaultsIn captureFaults
-    capture-same k h = rw (register-present (k .id) (k .number) (h .0) (h .1))
+    capture-same k h = rw (register-present c fit (k .id) (k .number) (h .0) (h .1))
 
     child-same : (k : Child) → (k .id < 256 ^ 2) × (k .number < 256) → childFaultsIn (nodeKeys c) k ≡ childFaults c k
     unfolding childFaultsIn childFaults
-    child-same k h = rw (node-present (k .id) (k .number) (omega (arith, h .0)) (h .1))
+    child-same k h = rw (node-present c fit (k .id) (k .number) (omega (arith, h .0)) (h .1))
 
     -- Each node instance has the same faults by the tables.
     pub instances-same : Every

@@ -9,8 +9,8 @@ use format::Refusal;
 use nodes::InstanceHeadRead;
 use nodes::instance_head_at;
 use numbers::Width;
-use rules::name_position;
 use tables::entry;
+use tables::name_position;
 ghost use Prim.Native.Nat.{ℕ};
 ghost use mathlib.Core.Bool.{true};
 ghost use mathlib.Core.List.{List, [], map};
@@ -44,7 +44,9 @@ fn name_fault(keys: &[u64], id: u64, number: u8, at: usize, next: usize) -> Next
 
 // The fault of a capture, or the place after it.
 fn capture_fault(s: &[u8], at: usize, keys: &[u64]) -> NextRead
-    ensures { λ r. ⌜ ((before : List Capture) (k : Capture) (m : ℕ) → captureAt (now (s .entry)) before at ≡ done k m → nextParsed r ≡ judgedAt (captureFaultsIn (now (keys .entry)) k) m) ⌝ }
+    ensures { λ r. ⌜ ((before : List Capture) (k : Capture) (m : ℕ)
+        → captureAt (now (s .entry)) before at ≡ done k m
+        → nextParsed r ≡ judgedAt (captureFaultsIn (now (keys .entry)) k) m) ⌝ }
 {
     let i = number_at(s, at, Width::Three);
     match i {
@@ -61,18 +63,22 @@ fn capture_fault(s: &[u8], at: usize, keys: &[u64]) -> NextRead
 
 // The fault of a rule, or the place after it. It reads each byte of the rule once.
 fn rule_fault(s: &[u8], at: usize, kind: u64, keys: &[u64], kinds: &[u64]) -> NextRead
-    ensures { λ r. ⌜ ((before : List Rule) (k : Rule) (m : ℕ) → ruleAt (now (s .entry)) true before at ≡ done k m → nextParsed r ≡ judgedAt (ruleFaultsIn (now (keys .entry)) (now (kinds .entry)) kind k) m) ⌝ }
+    ensures { λ r. ⌜ ((before : List Rule) (k : Rule) (m : ℕ)
+        → ruleAt (now (s .entry)) true before at ≡ done k m
+        → nextParsed r ≡ judgedAt (ruleFaultsIn (now (keys .entry)) (now (kinds .entry)) kind k) m) ⌝ }
 {
     let b = byte_at(s, at);
     match b {
-        ByteRead::Byte(_, a) => rules::faults_at(s, a, format::LEVELS, kind, keys, kinds),
+        ByteRead::Byte(_, a) => naming::faults_at(s, a, format::LEVELS, kind, keys, kinds),
         ByteRead::Refused(r) => NextRead::Refused(r),
     }
 }
 
 // The fault of a child, or the place after it.
 fn child_fault(s: &[u8], at: usize, keys: &[u64]) -> NextRead
-    ensures { λ r. ⌜ ((before : List Child) (k : Child) (m : ℕ) → childAt (now (s .entry)) true before at ≡ done k m → nextParsed r ≡ judgedAt (childFaultsIn (now (keys .entry)) k) m) ⌝ }
+    ensures { λ r. ⌜ ((before : List Child) (k : Child) (m : ℕ)
+        → childAt (now (s .entry)) true before at ≡ done k m
+        → nextParsed r ≡ judgedAt (childFaultsIn (now (keys .entry)) k) m) ⌝ }
 {
     let b = byte_at(s, at);
     match b {
@@ -95,7 +101,9 @@ fn child_fault(s: &[u8], at: usize, keys: &[u64]) -> NextRead
 
 // The first fault of so many captures, or the place after them. It looks each up once.
 fn capture_faults(s: &[u8], at: usize, n: u8, keys: &[u64]) -> NextRead
-    ensures { λ r. ⌜ ((ks : List Capture) (m : ℕ) → rowAt (captureAt (now (s .entry))) n [] at ≡ done ks m → nextParsed r ≡ judgedAt (gathered (captureFaultsIn (now (keys .entry))) ks) m) ⌝ }
+    ensures { λ r. ⌜ ((ks : List Capture) (m : ℕ)
+        → rowAt (captureAt (now (s .entry))) n [] at ≡ done ks m
+        → nextParsed r ≡ judgedAt (gathered (captureFaultsIn (now (keys .entry))) ks) m) ⌝ }
 {
     let mut left = n;
     let mut place = at;
@@ -116,7 +124,9 @@ fn capture_faults(s: &[u8], at: usize, n: u8, keys: &[u64]) -> NextRead
 
 // The first fault of so many rules, or the place after them. It looks up each register that they name once.
 fn rule_faults(s: &[u8], at: usize, n: u8, kind: u64, keys: &[u64], kinds: &[u64]) -> NextRead
-    ensures { λ r. ⌜ ((ks : List Rule) (m : ℕ) → rowAt (ruleAt (now (s .entry)) true) n [] at ≡ done ks m → nextParsed r ≡ judgedAt (gathered (ruleFaultsIn (now (keys .entry)) (now (kinds .entry)) kind) ks) m) ⌝ }
+    ensures { λ r. ⌜ ((ks : List Rule) (m : ℕ)
+        → rowAt (ruleAt (now (s .entry)) true) n [] at ≡ done ks m
+        → nextParsed r ≡ judgedAt (gathered (ruleFaultsIn (now (keys .entry)) (now (kinds .entry)) kind) ks) m) ⌝ }
 {
     let mut left = n;
     let mut place = at;
@@ -137,7 +147,9 @@ fn rule_faults(s: &[u8], at: usize, n: u8, kind: u64, keys: &[u64], kinds: &[u64
 
 // The first fault of so many children, or the place after them. It looks each up once.
 fn child_faults(s: &[u8], at: usize, n: u8, keys: &[u64]) -> NextRead
-    ensures { λ r. ⌜ ((ks : List Child) (m : ℕ) → rowAt (childAt (now (s .entry)) true) n [] at ≡ done ks m → nextParsed r ≡ judgedAt (gathered (childFaultsIn (now (keys .entry))) ks) m) ⌝ }
+    ensures { λ r. ⌜ ((ks : List Child) (m : ℕ)
+        → rowAt (childAt (now (s .entry)) true) n [] at ≡ done ks m
+        → nextParsed r ≡ judgedAt (gathered (childFaultsIn (now (keys .entry))) ks) m) ⌝ }
 {
     let mut left = n;
     let mut place = at;
@@ -165,7 +177,9 @@ pub fn instance_faults(
     kinds: &[u64],
     nodes: &[u64],
 ) -> NextRead
-    ensures { λ r. ⌜ ((total : ℕ) (before : List NodeInstance) (i : NodeInstance) (m : ℕ) → nodeInstanceAt (now (s .entry)) true total before at ≡ done i m → nextParsed r ≡ judgedAt (instanceFaultsIn (now (keys .entry)) (now (kinds .entry)) (now (nodes .entry)) kind i) m) ⌝ }
+    ensures { λ r. ⌜ ((total : ℕ) (before : List NodeInstance) (i : NodeInstance) (m : ℕ)
+        → nodeInstanceAt (now (s .entry)) true total before at ≡ done i m
+        → nextParsed r ≡ judgedAt (instanceFaultsIn (now (keys .entry)) (now (kinds .entry)) (now (nodes .entry)) kind i) m) ⌝ }
 {
     let none = [0u8; 1];
     let top = instance_head_at(s, at, 0, &none);
@@ -198,7 +212,11 @@ pub fn node_faults(
     kinds: &[u64],
     nodes: &[u64],
 ) -> NextRead
-    ensures { λ r. ⌜ ((es : List NodeEntry) → Every (ReadAgain (now (s .entry))) es → now (places .entry) ≡ map entryPlace es → now (wanted .entry) ≡ map entryWanted es → nextParsed r ≡ judgedAt (gathered (entryFaultsIn (now (keys .entry)) (now (kinds .entry)) (now (nodes .entry))) es) 0) ⌝ }
+    ensures { λ r. ⌜ ((es : List NodeEntry)
+        → Every (ReadAgain (now (s .entry))) es
+        → now (places .entry) ≡ map entryPlace es
+        → now (wanted .entry) ≡ map entryWanted es
+        → nextParsed r ≡ judgedAt (gathered (entryFaultsIn (now (keys .entry)) (now (kinds .entry)) (now (nodes .entry))) es) 0) ⌝ }
 {
     let mut i = 0;
     while i < places.len() {

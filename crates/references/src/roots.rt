@@ -10,7 +10,7 @@ use format::Kind;
 use format::Refusal;
 use links::rule_place;
 use numbers::Width;
-use rules::name_position;
+use tables::name_position;
 ghost use Prim.Native.Nat.{ℕ};
 ghost use mathlib.Core.Bool.{true};
 ghost use mathlib.Core.List.{List, [], map};
@@ -46,7 +46,10 @@ fn rule_fault(
     places: &[u64],
     nodes: &[u64],
 ) -> NextRead
-    ensures { λ r. ⌜ ((es : List NodeEntry) → Every (ReadAgain (now (s .entry))) es → now (places .entry) ≡ map entryPlace es → nextParsed r ≡ judgedAt (unless (ruled (now (nodes .entry)) es attention id number) 12 at) next) ⌝ }
+    ensures { λ r. ⌜ ((es : List NodeEntry)
+        → Every (ReadAgain (now (s .entry))) es
+        → now (places .entry) ≡ map entryPlace es
+        → nextParsed r ≡ judgedAt (unless (ruled (now (nodes .entry)) es attention id number) 12 at) next) ⌝ }
 {
     let k = name_position(nodes, id, number);
     if k < places.len() {
@@ -63,7 +66,12 @@ fn rule_fault(
 
 // The fault of a root, or the place after it.
 fn root_fault(s: &[u8], at: usize, places: &[u64], nodes: &[u64]) -> NextRead
-    ensures { λ r. ⌜ ((es : List NodeEntry) → Every (ReadAgain (now (s .entry))) es → now (places .entry) ≡ map entryPlace es → (before : List Root) (t : Root) (m : ℕ) → rootAt (now (s .entry)) true before at ≡ done t m → nextParsed r ≡ judgedAt (rootFaultsIn (now (nodes .entry)) es t) m) ⌝ }
+    ensures { λ r. ⌜ ((es : List NodeEntry)
+        → Every (ReadAgain (now (s .entry))) es
+        → now (places .entry) ≡ map entryPlace es
+        → (before : List Root) (t : Root) (m : ℕ)
+        → rootAt (now (s .entry)) true before at ≡ done t m
+        → nextParsed r ≡ judgedAt (rootFaultsIn (now (nodes .entry)) es t) m) ⌝ }
 {
     let b = byte_at(s, at);
     match b {
@@ -95,7 +103,12 @@ fn root_fault(s: &[u8], at: usize, places: &[u64], nodes: &[u64]) -> NextRead
 
 // The first fault of so many roots, or the place after them. It looks each up once.
 fn root_rows(s: &[u8], at: usize, n: u8, places: &[u64], nodes: &[u64]) -> NextRead
-    ensures { λ r. ⌜ ((es : List NodeEntry) → Every (ReadAgain (now (s .entry))) es → now (places .entry) ≡ map entryPlace es → (ts : List Root) (m : ℕ) → rowAt (rootAt (now (s .entry)) true) n [] at ≡ done ts m → nextParsed r ≡ judgedAt (gathered (rootFaultsIn (now (nodes .entry)) es) ts) m) ⌝ }
+    ensures { λ r. ⌜ ((es : List NodeEntry)
+        → Every (ReadAgain (now (s .entry))) es
+        → now (places .entry) ≡ map entryPlace es
+        → (ts : List Root) (m : ℕ)
+        → rowAt (rootAt (now (s .entry)) true) n [] at ≡ done ts m
+        → nextParsed r ≡ judgedAt (gathered (rootFaultsIn (now (nodes .entry)) es) ts) m) ⌝ }
 {
     let mut left = n;
     let mut place = at;
@@ -116,7 +129,12 @@ fn root_rows(s: &[u8], at: usize, n: u8, places: &[u64], nodes: &[u64]) -> NextR
 
 // The first fault of the roots section at a place, or the place after it.
 pub fn root_faults(s: &[u8], at: usize, places: &[u64], nodes: &[u64]) -> NextRead
-    ensures { λ r. ⌜ ((es : List NodeEntry) → Every (ReadAgain (now (s .entry))) es → now (places .entry) ≡ map entryPlace es → (ts : List Root) (m : ℕ) → rootsAt (now (s .entry)) true at ≡ done ts m → nextParsed r ≡ judgedAt (gathered (rootFaultsIn (now (nodes .entry)) es) ts) m) ⌝ }
+    ensures { λ r. ⌜ ((es : List NodeEntry)
+        → Every (ReadAgain (now (s .entry))) es
+        → now (places .entry) ≡ map entryPlace es
+        → (ts : List Root) (m : ℕ)
+        → rootsAt (now (s .entry)) true at ≡ done ts m
+        → nextParsed r ≡ judgedAt (gathered (rootFaultsIn (now (nodes .entry)) es) ts) m) ⌝ }
 {
     let k = keyword_at(s, at, &format::ROOT);
     match k {
@@ -176,7 +194,9 @@ fn root_at(s: &[u8], at: usize) -> RootEntry
 
 // The position of the node instance of the first of so many roots that is for an attention type; 65,535 where there is none. It reads each root before it once.
 fn find_root(s: &[u8], at: usize, n: u8, attention: u8, nodes: &[u64]) -> usize
-    ensures { λ r. ⌜ ((ts : List Root) (m : ℕ) → rowAt (rootAt (now (s .entry)) true) n [] at ≡ done ts m → r ≡ rootPosition (now (nodes .entry)) attention ts) ⌝ }
+    ensures { λ r. ⌜ ((ts : List Root) (m : ℕ)
+        → rowAt (rootAt (now (s .entry)) true) n [] at ≡ done ts m
+        → r ≡ rootPosition (now (nodes .entry)) attention ts) ⌝ }
 {
     let mut left = n;
     let mut place = at;
@@ -193,7 +213,9 @@ fn find_root(s: &[u8], at: usize, n: u8, attention: u8, nodes: &[u64]) -> usize
 
 // The position of the node instance of the root for an attention type; 65,535 where the roots section at a place has none.
 pub fn root_position(s: &[u8], at: usize, attention: u8, nodes: &[u64]) -> usize
-    ensures { λ r. ⌜ ((ts : List Root) (m : ℕ) → rootsAt (now (s .entry)) true at ≡ done ts m → r ≡ rootPosition (now (nodes .entry)) attention ts) ⌝ }
+    ensures { λ r. ⌜ ((ts : List Root) (m : ℕ)
+        → rootsAt (now (s .entry)) true at ≡ done ts m
+        → r ≡ rootPosition (now (nodes .entry)) attention ts) ⌝ }
 {
     let k = keyword_at(s, at, &format::ROOT);
     match k {

@@ -56,7 +56,10 @@ pub fn address_at(s: &[u8], at: usize, kind: u8) -> NumberRead
 
 // A register instance: its number. `seen` marks the numbers before it in the register, and `begun` instances stand before it in the file.
 fn register_instance_at(s: &[u8], at: usize, kind: u8, begun: usize, seen: &[u8]) -> ByteRead
-    ensures { λ r. ⌜ ((total : ℕ) (before : List RegisterInstance) → Tells (unmarked (now (seen .entry))) (map registerNumber before) → begun ≡ total + length before → byteParsed r ≡ making registerNumber (registerInstanceAt (now (s .entry)) true total kind before at)) ⌝ }
+    ensures { λ r. ⌜ ((total : ℕ) (before : List RegisterInstance)
+        → Tells (unmarked (now (seen .entry))) (map registerNumber before)
+        → begun ≡ total + length before
+        → byteParsed r ≡ making registerNumber (registerInstanceAt (now (s .entry)) true total kind before at)) ⌝ }
 {
     let b = instance_number_at(s, at, begun, format::REGISTER_LIMIT, seen);
     match b {
@@ -159,7 +162,10 @@ pub fn register_head_at(s: &[u8], at: usize, ids: &[u64]) -> RegisterHeadRead
 
 // A register: its ID and how many instances it has. `ids` are the IDs of the registers before it, and `total` is how many instances these have.
 fn register_at(s: &[u8], at: usize, ids: &[u64], total: usize) -> ElementRead
-    ensures { λ r. ⌜ ((before : List Register) → Tells (fresh true (now (ids .entry))) (map registerId before) → total ≡ registerTotal before → elementParsed r ≡ making registerElement (registerAt (now (s .entry)) true before at)) ⌝ }
+    ensures { λ r. ⌜ ((before : List Register)
+        → Tells (fresh true (now (ids .entry))) (map registerId before)
+        → total ≡ registerTotal before
+        → elementParsed r ≡ making registerElement (registerAt (now (s .entry)) true before at)) ⌝ }
 {
     let top = register_head_at(s, at, ids);
     match top {

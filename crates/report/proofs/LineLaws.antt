@@ -8,7 +8,8 @@ use lib.Dec.{lit≤}
 use lib.ListN.{length, drop, getD, length-append}
 use lib.Seq.{drop-drop}
 use Rattle.numbers.specs.Field.{field}
-use Rattle.numbers.proofs.BigEndianLaws.{Bytes, bytes-drop}
+use Rattle.numbers.specs.BigEndian.{Bytes}
+use Rattle.numbers.proofs.BigEndianLaws.{bytes-drop}
 use Rattle.numbers.proofs.FieldLaws.{field-lt, field-byte, field-two, field-drop}
 use Rattle.listing.specs.Records.{recordSize}
 use Rattle.tables.specs.Tables.{written}

@@ -8,9 +8,8 @@ use borrow.Author.Tests.{lt-leb, leb-true, leb-false, ne-eqb}
 use lib.Dec.{leb}
 use lib.ListN.{length, take, length-map}
 use lib.Seq.{take-all, length-take-le}
-use Rattle.numbers.specs.BigEndian.{bigEndian, bytesOf}
+use Rattle.numbers.specs.BigEndian.{bigEndian, bytesOf, Bytes}
 use Rattle.numbers.specs.Field.{field}
-use Rattle.numbers.proofs.BigEndianLaws.{Bytes}
 use Rattle.format.specs.Fields.{knownAttention}
 use Rattle.format.specs.Limits.{fileLimit, registerLimit}
 use Rattle.format.specs.Lookup.{registerEntries}
@@ -20,7 +19,7 @@ use Rattle.format.specs.Verdict.{verdict}
 use Rattle.tables.specs.Tables.{keyOf}
 use Rattle.tables.specs.Keys.{registerKeys}
 use Rattle.readings.specs.ReadingsFile.{fileFits}
-use Rattle.isolation.specs.ChipGraph.{rootFor}
+use Rattle.format.specs.Finding.{rootFor}
 use Rattle.isolation.specs.Outcome.{refusedOutcome}
 use Rattle.listing.specs.Records.{recordOf}
 use Rattle.report.specs.Report.{fileFromRoot, isolateFileIn, isolateFile, stationList, report}

@@ -9,7 +9,7 @@ use Rattle.format.specs.Tree.{Root, Chip}
 use Rattle.format.specs.Verdict.{verdict}
 use Rattle.tables.specs.Keys.{registerKeys}
 use Rattle.readings.specs.ReadingsFile.{fileFits, wordsOf, readOf}
-use Rattle.isolation.specs.ChipGraph.{rootFor}
+use Rattle.format.specs.Finding.{rootFor}
 use Rattle.isolation.specs.Outcome.{Outcome, refusedOutcome, fromRoot}
 use Rattle.report.specs.Text.{textOf}
 

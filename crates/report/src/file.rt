@@ -1,10 +1,9 @@
 // Isolation with a readings file.
 use format::Checked;
-use format::Kind;
-use format::Refusal;
 use isolation::Isolated;
 use isolation::isolate;
 use reader::prepare::prepare;
+use readings::Decoded;
 use readings::decode;
 ghost use Prim.Native.Nat.{ℕ};
 ghost use mathlib.Core.Path.{_≡_};
@@ -23,15 +22,21 @@ fn isolate_named(
     keys: &[u64],
     list: &mut [u8],
 ) -> Isolated
-    ensures { λ r. ⌜ ((c : Chip) (end : ℕ) → verdict (now (file .entry)) ≡ done c end → now (keys .entry) ≡ registerKeys c → outcomeOf r (now (list .exit)) ≡ isolateFile (now (file .entry)) attention (now (readings .entry)) (now (list .entry))) ⌝ }
+    ensures { λ r. ⌜ ((c : Chip) (end : ℕ)
+        → verdict (now (file .entry)) ≡ done c end
+        → now (keys .entry) ≡ registerKeys c
+        → outcomeOf r (now (list .exit)) ≡ isolateFile (now (file .entry)) attention (now (readings .entry)) (now (list .entry))) ⌝ }
 {
     let mut words = [0u64; format::REGISTER_LIMIT];
     let mut read = [0u8; format::REGISTER_LIMIT];
-    if decode(readings, keys, &mut words, &mut read) {
-        let n = keys.len();
-        return isolate(file, attention, &words[..n], &read[..n], list);
+    let d = decode(readings, keys, &mut words, &mut read);
+    match d {
+        Decoded::Read => {
+            let n = keys.len();
+            isolate(file, attention, &words[..n], &read[..n], list)
+        }
+        Decoded::Refused(_) => isolate(file, attention, &words[..0], &read[..0], list),
     }
-    isolate(file, attention, &words[..0], &read[..0], list)
 }
 
 // Isolation of a file with the readings of a readings file. A readings file that does not fit is refused with 17, after the file's own refusals, 15 and 16.
@@ -55,12 +60,6 @@ pub fn isolate_file(file: &[u8], attention: u8, readings: &[u8], list: &mut [u8]
     match c {
         Checked::Accepted(s) => {
             let m = s.register_instances;
-            if format::REGISTER_LIMIT < m {
-                return Isolated::Refused(Refusal {
-                    kind: Kind::TooManyInstances,
-                    place: 0,
-                });
-            }
             isolate_named(file, attention, readings, &keys[..m], list)
         }
         Checked::Refused(r) => Isolated::Refused(r),

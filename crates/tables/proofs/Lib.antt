@@ -2,3 +2,5 @@
 pub mod TablesLaws
 pub mod ColumnLaws
 pub mod FaultsLaws
+pub mod KeysLaws
+pub mod WritingLaws

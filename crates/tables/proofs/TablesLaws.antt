@@ -5,8 +5,8 @@ use mathlib.Core.Path.{_≡_, refl, ap, _∙_}
 use native.Mathlib.Omega.{arith}
 use lib.Dec.{eqb}
 use native.Mathlib.Numerals.{add-one}
-use lib.ListN.{length, drop, getD, set, length-set, drop-of-length-le}
-use lib.Seq.{drop-cons}
+use lib.ListN.{length, take, drop, getD, set, length-set, drop-of-length-le}
+use lib.Seq.{drop-cons, take-append-seam}
 use borrow.Author.Tests.{eq-eqb, ne-eqb}
 use Rattle.format.specs.Lookup.{position}
 use Rattle.tables.specs.Tables.{written}
@@ -59,6 +59,9 @@ unfolding written
 written-front t [] h = refl
 written-front [] (x ∷ xs) h = absurd (omega arith)
 written-front (y ∷ t) (x ∷ xs) h = written-behind x t 0 xs ∙ ap (λ u. x ∷ u) (written-front t xs (omega arith))
+
+pub written-take : (t xs : List ℕ) (n : ℕ) → n ≡ length xs → length xs ≤ length t → take n (written t 0 xs) ≡ xs
+written-take t xs n e h = rw (e, written-front t xs h) (take-append-seam xs (drop (length xs) t))
 
 -- Copying, number after number.
 

@@ -1,4 +1,4 @@
--- Refusals 12, 13 and 18 by tables: the keys of the register instances in file order, and for each what a rule's node has to be.
+-- Refusals 12 and 13 by tables: the keys of the register instances in file order, and for each what a rule's node has to be.
 use Prim.Native.Nat.{ℕ}
 use mathlib.Core.Bool.{Bool}
 use mathlib.Core.List.{List, [], _∷_, _++_}
@@ -28,10 +28,3 @@ module _ (keys : List ℕ) where
   nameFaults kinds type n =
       unless (present (n .id) (n .number)) 12 (n .place)
       ++ unless (eqb (getD kinds (positionIn (n .id) (n .number)) 0) type) 13 (n .place)
-
-  -- The reading of a register instance, and whether it has one.
-  unfoldable pub wordIn : List ℕ → ℕ → ℕ → ℕ
-  wordIn words id number = getD words (positionIn id number) 0
-
-  unfoldable pub unreadIn : List ℕ → Named → List Fault
-  unreadIn read n = unless (eqb (getD read (positionIn (n .id) (n .number)) 0) 1) 18 (n .place)

@@ -3,6 +3,7 @@ ghost use mathlib.Core.Path.{_≡_};
 ghost use lib.Dec.{eqb};
 ghost use lib.ListN.{getD, set};
 ghost use Rattle.format.specs.Lookup.{position};
+ghost use Rattle.tables.specs.Faults.{positionIn};
 ghost use Rattle.tables.specs.Tables.{keyOf, written};
 
 // What the name of a register instance or a node instance is kept as: its ID and its number in one.
@@ -24,6 +25,13 @@ pub fn position_of(table: &[u64], x: u64) -> usize
         i += 1;
     }
     i
+}
+
+// The position of the register instance or node instance of a name among keys, or the number of keys.
+pub fn name_position(keys: &[u64], id: u64, number: u8) -> usize
+    ensures { λ r. ⌜ r ≡ positionIn (now (keys .entry)) id number ⌝ }
+{
+    position_of(keys, key(id, number))
 }
 
 // A number at a place of a table; a table without the place keeps what it has.

@@ -3,4 +3,5 @@ pub mod First
 pub mod Step
 pub mod Tables
 pub mod WalkLaws
+pub mod StepsLaws
 pub mod RunLaws

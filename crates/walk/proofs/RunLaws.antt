@@ -1,20 +1,28 @@
 -- The walk over two tables from start to end, in the code's own terms.
-use mathlib.Core.Path.{_≡_, sym, _∙_}
+use mathlib.Core.Path.{_≡_, sym, _∙_, subst}
 use mathlib.Core.Bool.{Bool, true, false}
 use mathlib.Core.List.{List}
 use Prim.Native.Nat.{ℕ, _+_, _≤_, _<_}
 use native.Mathlib.Omega.{arith}
 use lib.Dec.{ltb}
 use Rattle.walk.specs.declared.Walked.{Walked}
-use Rattle.walk.specs.TableGraph.{sizeOf, tableGraph}
+use Rattle.walk.specs.TableGraph.{tableSize, tableGraph}
 use Rattle.walk.specs.Marks.{firstWaiting, waits, started, stepped, finished}
+use Rattle.walk.specs.Steps.{StepCount}
 use Rattle.walk.proofs.Tables.{size-few, table-sound}
-use Rattle.walk.proofs.WalkLaws.{Walking, walked-start, walked-step, walked-less, walked-end, walked-steps, finished-nowhere, steps-nowhere}
+use Rattle.walk.proofs.WalkLaws.{Walking, walked-start, walked-step, walked-less, walked-end, walked-steps, finished-nowhere, steps-nowhere, same-walked}
+use Rattle.walk.proofs.StepsLaws.{step-count}
 
-same-walked : {m m′ : List ℕ} {s s′ : ℕ} → m ≡ m′ → s ≡ s′ → _≡_ {A = Walked} (record { marks = m; steps = s }) (record { marks = m′; steps = s′ })
-same-walked p q = cc
+table-few : (act ch : List ℕ) → tableGraph act ch .size ≤ 256
+unfolding tableGraph
+table-few act ch = size-few act .0
 
-module _ (act ch : List ℕ) (root n : ℕ) (size : n ≡ sizeOf act) where
+-- A walk that has come to its end took as many steps as its count says.
+pub run-counted : (act ch : List ℕ) (root : ℕ) {w : Walked} → w ≡ finished (tableGraph act ch) root
+    → (w ≡ finished (tableGraph act ch) root) × StepCount (tableGraph act ch) root w
+run-counted act ch root e = (e, subst (StepCount _ root) (sym e) (step-count (tableGraph act ch) (table-sound act ch) (table-few act ch) root))
+
+module _ (act ch : List ℕ) (root n : ℕ) (size : n ≡ tableSize act) where
   size-of : n ≡ tableGraph act ch .size
   unfolding tableGraph
   size-of = size
@@ -35,7 +43,7 @@ module _ (act ch : List ℕ) (root n : ℕ) (size : n ≡ sizeOf act) where
     waits-of m e d = rw (← size) (sym e ∙ d)
 
     pub run-start : {m : List ℕ} → m ≡ started root → Walking (tableGraph act ch) root m 0
-    run-start e = rw e (walked-start (tableGraph act ch) root inside (omega (arith, size-of, size, size-few act)))
+    run-start e = rw e (walked-start (tableGraph act ch) root inside (table-few act ch))
 
     module _ {m : List ℕ} {s : ℕ} (w : Walking (tableGraph act ch) root m s) {t : Bool} (e : t ≡ ltb (firstWaiting m) n) where
       pub run-ready : t ≡ true → s < n

@@ -12,7 +12,7 @@ use borrow.Author.Tests.{eqb-true, eqb-false, lt-ltb, le-ltb}
 use Rattle.graph.specs.Below.{any}
 use Rattle.graph.specs.Chains.{Graph, linked, names}
 use Rattle.walk.specs.declared.Walk.{Walk}
-use Rattle.walk.specs.TableGraph.{sizeOf, tableGraph}
+use Rattle.walk.specs.TableGraph.{tableSize, tableGraph}
 use Rattle.walk.specs.Fold.{touched, touchedTo, touchChild}
 use Rattle.walk.specs.Marks.{markAfter, tabulate, stepped, waits, stepWalk, firstWaiting}
 
@@ -115,7 +115,7 @@ touchedTo-all g m k l =
     (λ j h. let h′ : j < length m = omega arith in touchedTo-at g m k l 64 j h′ ∙ sym (getD-tabulate _ _ j h′))
 
 -- A step, at the first waiting instance k.
-module _ (act ch : List ℕ) (w : Walk) (k n : ℕ) (e : k ≡ firstWaiting (w .marks)) (d : n ≡ sizeOf act) where
+module _ (act ch : List ℕ) (w : Walk) (k n : ℕ) (e : k ≡ firstWaiting (w .marks)) (d : n ≡ tableSize act) where
   waits-not : n ≤ k → waits (tableGraph act ch) (w .marks) ≡ false
   unfolding waits tableGraph
   waits-not l = rw (← e, ← d) (le-ltb _ _ l)

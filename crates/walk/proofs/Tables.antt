@@ -14,19 +14,19 @@ use Rattle.numbers.specs.Bits.{bitOf}
 use Rattle.numbers.proofs.BitsLaws.{bit-out}
 use Rattle.numbers.proofs.Bools.{either, clash, and-left, and-right}
 use Rattle.graph.specs.Chains.{Graph, Sound}
-use Rattle.walk.specs.TableGraph.{sizeOf, childAt, tableGraph}
+use Rattle.walk.specs.TableGraph.{tableSize, childAt, tableGraph}
 use Rattle.walk.specs.Fold.{orElse, touched, touchedTo}
 
-pub size-few : (act : List ℕ) → (sizeOf act ≤ 256) × (sizeOf act ≤ length act)
-unfolding sizeOf
+pub size-few : (act : List ℕ) → (tableSize act ≤ 256) × (tableSize act ≤ length act)
+unfolding tableSize
 size-few act = (omega arith, omega arith)
 
-pub size-short : (act : List ℕ) → length act < 256 → length act ≡ sizeOf act
-unfolding sizeOf
+pub size-short : (act : List ℕ) → length act < 256 → length act ≡ tableSize act
+unfolding tableSize
 size-short act h = omega arith
 
-pub size-long : (act : List ℕ) → 256 ≤ length act → 256 ≡ sizeOf act
-unfolding sizeOf
+pub size-long : (act : List ℕ) → 256 ≤ length act → 256 ≡ tableSize act
+unfolding tableSize
 size-long act h = omega arith
 
 -- The child of a place.
@@ -62,8 +62,8 @@ or-else-some none e l = absurd (omega arith)
 or-else-some (some d) e l = ap some (sym e)
 
 -- One look at bit b of k.
-module _ (act ch m : List ℕ) (n k b : ℕ) (size : n ≡ sizeOf act) (kn : k < n) (b64 : b < 64) where
-  k-in : ltb k (sizeOf act) ≡ true
+module _ (act ch m : List ℕ) (n k b : ℕ) (size : n ≡ tableSize act) (kn : k < n) (b64 : b < 64) where
+  k-in : ltb k (tableSize act) ≡ true
   k-in = rw (← size) (lt-ltb k n kn)
 
   pub idle : bitOf 64 (getD act k 0) b ≡ false → m ≡ touched (tableGraph act ch) m k b
@@ -75,11 +75,11 @@ module _ (act ch m : List ℕ) (n k b : ℕ) (size : n ≡ sizeOf act) (kn : k <
     unfolding touched tableGraph
     outside l =
         let o : childAt n ch (k * 64 + b) ≡ none = or-else-none _ found l (child-in n ch (k * 64 + b)) in
-        let p : childAt (sizeOf act) ch (k * 64 + b) ≡ none = ap (λ x. childAt x ch (k * 64 + b)) (sym size) ∙ o in
+        let p : childAt (tableSize act) ch (k * 64 + b) ≡ none = ap (λ x. childAt x ch (k * 64 + b)) (sym size) ∙ o in
         simp (k-in, on, lt-ltb b 64 b64, p)
 
     module _ (l : c < n) where
-      there : childAt (sizeOf act) ch (k * 64 + b) ≡ some c
+      there : childAt (tableSize act) ch (k * 64 + b) ≡ some c
       there = ap (λ x. childAt x ch (k * 64 + b)) (sym size) ∙ or-else-some _ found l
 
       pub known : (getD m c 0 ≡ 0 → ⊥) → m ≡ touched (tableGraph act ch) m k b
@@ -105,10 +105,10 @@ unfolding tableGraph
 table-sound act ch =
     record {
       instances = λ i b e. ltb-true _ _ (and-left _ _ e);
-      bits = λ i b e. ⊎-elim (λ h. ltb-true _ _ h) (λ h. clash (and-right (ltb i (sizeOf act)) _ e) (bit-out 64 (getD act i 0) b (ltb-false _ _ h))) (either (ltb b 64));
-      children = λ i b j. inside i b j (ltb i (sizeOf act) && ltb b 64);
+      bits = λ i b e. ⊎-elim (λ h. ltb-true _ _ h) (λ h. clash (and-right (ltb i (tableSize act)) _ e) (bit-out 64 (getD act i 0) b (ltb-false _ _ h))) (either (ltb b 64));
+      children = λ i b j. inside i b j (ltb i (tableSize act) && ltb b 64);
     }
   where
-    inside : (i b j : ℕ) (t : Bool) → cond t (childAt (sizeOf act) ch (i * 64 + b)) none ≡ some j → j < sizeOf act
-    inside i b j true e = child-in (sizeOf act) ch (i * 64 + b) j e
+    inside : (i b j : ℕ) (t : Bool) → cond t (childAt (tableSize act) ch (i * 64 + b)) none ≡ some j → j < tableSize act
+    inside i b j true e = child-in (tableSize act) ch (i * 64 + b) j e
     inside i b j false e = let z : _≡_ {A = ℕ} 0 1 = cc in absurd (omega arith)

@@ -15,6 +15,7 @@ use Rattle.graph.specs.Paths.{Reached, here, next}
 use Rattle.graph.specs.Chains.{Graph, Sound, linked, reachedFrom, reachedCount}
 use Rattle.graph.proofs.BelowLaws.{count-one, count-same, count-le, count-zero}
 use Rattle.graph.proofs.ChainsLaws.{linked-inside, reached-in}
+use Rattle.walk.specs.declared.Walked.{Walked}
 use Rattle.walk.specs.Marks.{firstWaiting, markAfter, tabulate, stepped, waits, started, finished}
 use Rattle.walk.proofs.First.{first-waits, first-le}
 use Rattle.walk.proofs.Step.{length-tabulate, getD-tabulate}
@@ -199,7 +200,7 @@ pub started-at : (root i : ℕ) → i < 256 → getD (started root) i 0 ≡ cond
 unfolding started
 started-at root i h = getD-tabulate 256 _ i h
 
-length-started : (root : ℕ) → length (started root) ≡ 256
+pub length-started : (root : ℕ) → length (started root) ≡ 256
 unfolding started
 length-started root = length-tabulate 256 _
 
@@ -252,6 +253,11 @@ module _ (g : Graph) (root : ℕ) (h : root < g .size) (few : g .size ≤ 256) w
         counted = sym (count-zero (g .size) _ (λ i _. ⊎-elim (λ d. rw (d .1)) (λ d. rw d) (begin i)));
       }
 
+-- A walk from a root of the graph takes as many steps as node instances are reached.
+pub steps-reached : (g : Graph) (root : ℕ) → root < g .size → finished g root .steps ≡ reachedCount g root
+unfolding finished
+steps-reached g root h = rw (lt-ltb _ _ h)
+
 -- A walk from a root that the graph does not have takes no step.
 pub finished-nowhere : (g : Graph) (root : ℕ) → g .size ≤ root → started root ≡ finished g root .marks
 unfolding finished started
@@ -260,3 +266,7 @@ finished-nowhere g root l = rw (le-ltb _ _ l)
 pub steps-nowhere : (g : Graph) (root : ℕ) → g .size ≤ root → 0 ≡ finished g root .steps
 unfolding finished
 steps-nowhere g root l = rw (le-ltb _ _ l)
+
+-- Walks of the same marks and steps are the same.
+pub same-walked : {m m′ : List ℕ} {s s′ : ℕ} → m ≡ m′ → s ≡ s′ → _≡_ {A = Walked} (record { marks = m; steps = s }) (record { marks = m′; steps = s′ })
+same-walked p q = cc

@@ -9,8 +9,8 @@ use Rattle.numbers.specs.Bits.{bitOf}
 use Rattle.graph.specs.Chains.{Graph}
 
 -- "One mark for each of 256 node instances": the walk knows no others.
-unfoldable pub sizeOf : List ℕ → ℕ
-sizeOf act = min (length act) 256
+unfoldable pub tableSize : List ℕ → ℕ
+tableSize act = min (length act) 256
 
 -- The child at a place of the table, if there is such a place and it holds a node instance.
 unfoldable pub childAt : ℕ → List ℕ → ℕ → Option ℕ
@@ -19,7 +19,7 @@ childAt size ch k = cond (ltb k (length ch) && ltb (getD ch k 0) size) (some (ge
 unfoldable pub tableGraph : List ℕ → List ℕ → Graph
 tableGraph act ch =
     record {
-      size = sizeOf act;
-      active = λ i b. ltb i (sizeOf act) && bitOf 64 (getD act i 0) b;
-      child = λ i b. cond (ltb i (sizeOf act) && ltb b 64) (childAt (sizeOf act) ch (i * 64 + b)) none;
+      size = tableSize act;
+      active = λ i b. ltb i (tableSize act) && bitOf 64 (getD act i 0) b;
+      child = λ i b. cond (ltb i (tableSize act) && ltb b 64) (childAt (tableSize act) ch (i * 64 + b)) none;
     }

@@ -3,8 +3,9 @@ ghost use mathlib.Core.Path.{_≡_};
 ghost use Prim.Native.Nat.{_+_, _*_, _<_};
 ghost use lib.Dec.{ltb};
 ghost use lib.ListN.{length};
-ghost use Rattle.walk.specs.TableGraph.{sizeOf, childAt, tableGraph};
+ghost use Rattle.walk.specs.TableGraph.{tableSize, childAt, tableGraph};
 ghost use Rattle.walk.specs.Marks.{firstWaiting, stepWalk, started, finished};
+ghost use Rattle.walk.specs.Steps.{StepCount};
 ghost use Rattle.walk.specs.Fold.{orElse, touched, touchedTo};
 
 // The walk's state: a mark for each of 256 node instances: 0 untouched, 1 waiting, 2 done.
@@ -20,7 +21,7 @@ pub struct Walked {
 
 // How many node instances the walk knows.
 pub fn size(active: &[u64]) -> usize
-    ensures { λ r. ⌜ r ≡ sizeOf (now (active .entry)) ⌝ }
+    ensures { λ r. ⌜ r ≡ tableSize (now (active .entry)) ⌝ }
 {
     let n = active.len();
     if n < 256 { n } else { 256 }
@@ -56,7 +57,7 @@ pub fn child_at(n: usize, child: &[u16], k: usize) -> usize
 
 // The child of bit b of the instance k, if there is one and it is untouched, waits.
 fn touch(m: &mut [u8], active: &[u64], child: &[u16], n: usize, k: usize, b: u8)
-    requires { ⌜ (n ≡ sizeOf (now active)) × (length (now m) ≡ 256) × (k < n) × (b < 64) ⌝ }
+    requires { ⌜ (n ≡ tableSize (now active)) × (length (now m) ≡ 256) × (k < n) × (b < 64) ⌝ }
     ensures { λ r. ⌜ now (m .exit) ≡ touched (tableGraph (now (active .entry)) (now (child .entry))) (now (m .entry)) k b ⌝ }
 {
     if !numbers::bit(active[k], b) {
@@ -74,7 +75,7 @@ fn touch(m: &mut [u8], active: &[u64], child: &[u16], n: usize, k: usize, b: u8)
 
 // The untouched children of the instance k wait. It looks at each of its 64 bits once.
 fn touch_all(m: &mut [u8], active: &[u64], child: &[u16], n: usize, k: usize)
-    requires { ⌜ (n ≡ sizeOf (now active)) × (length (now m) ≡ 256) × (k < n) ⌝ }
+    requires { ⌜ (n ≡ tableSize (now active)) × (length (now m) ≡ 256) × (k < n) ⌝ }
     ensures { λ r. ⌜ now (m .exit) ≡ touchedTo (tableGraph (now (active .entry)) (now (child .entry))) (now (m .entry)) k 64 ⌝ }
 {
     let mut b: u8 = 0;
@@ -124,6 +125,7 @@ impl Walk {
 // Steps until none waits: at most one for each instance.
 pub fn run(active: &[u64], child: &[u16], root: usize) -> Walked
     ensures { λ r. ⌜ r ≡ finished (tableGraph (now (active .entry)) (now (child .entry))) root ⌝ }
+    ensures { λ r. ⌜ StepCount (tableGraph (now (active .entry)) (now (child .entry))) root r ⌝ }
 {
     let n = size(active);
     let mut w = Walk::start(root);

@@ -8,11 +8,14 @@ use Rattle.abi.proofs.lutemarble_address.Tie as tie
 
 returns : tie.Need-returns
 returns c =
-    answered-as addressList _ (sym (ap addressValues (c .before .before .before .before .before .a .given .1)) ∙ c .before .before .before .before .before .before .before .address .ensures) (c .before .before .put-four .ensures)
+    let e = sym (ap addressValues (c .before .before .before .before .before .a .given .1)) ∙ c .before .before .before .before .before .before .before .address .ensures in
+    (ap (λ x. x .number) e, answered-as addressList _ e (c .before .before .put-four .ensures))
 
 returns-2 : tie.Need-returns-2
 returns-2 c =
-    answered-as addressList _ (sym (ap addressValues (c .before .before .before .before .before .before .a2 .given .1)) ∙ c .before .before .before .before .before .before .before .before .address .ensures) (c .before .before .put-four2 .ensures ∙ refused-four _ _ (c .before .before .before .number .ensures))
+    let e = sym (ap addressValues (c .before .before .before .before .before .before .a2 .given .1)) ∙ c .before .before .before .before .before .before .before .before .address .ensures in
+    let n = c .before .before .before .before .number .ensures in
+    (n ∙ ap (λ x. x .number) e, answered-as addressList _ e (c .before .before .put-four2 .ensures ∙ refused-four _ _ n))
 
 pub lutemarble-address-spec : {M : Type 1} → statement M
 lutemarble-address-spec =

@@ -8,11 +8,14 @@ use Rattle.abi.proofs.lutemarble_check.Tie as tie
 
 returns : tie.Need-returns
 returns c =
-    answered-as checkList _ (sym (ap checkedValues (c .before .before .before .before .before .c .given .1)) ∙ c .before .before .before .before .before .before .before .check .ensures) (c .before .before .put-eight .ensures)
+    let e = sym (ap checkedValues (c .before .before .before .before .before .c .given .1)) ∙ c .before .before .before .before .before .before .before .check .ensures in
+    (ap (λ x. x .number) e, answered-as checkList _ e (c .before .before .put-eight .ensures))
 
 returns-2 : tie.Need-returns-2
 returns-2 c =
-    answered-as checkList _ (sym (ap checkedValues (c .before .before .before .before .before .before .c2 .given .1)) ∙ c .before .before .before .before .before .before .before .before .check .ensures) (c .before .before .put-eight2 .ensures ∙ refused-eight _ _ (c .before .before .before .number .ensures))
+    let e = sym (ap checkedValues (c .before .before .before .before .before .before .c2 .given .1)) ∙ c .before .before .before .before .before .before .before .before .check .ensures in
+    let n = c .before .before .before .before .number .ensures in
+    (n ∙ ap (λ x. x .number) e, answered-as checkList _ e (c .before .before .put-eight2 .ensures ∙ refused-eight _ _ n))
 
 pub lutemarble-check-spec : {M : Type 1} → statement M
 lutemarble-check-spec =

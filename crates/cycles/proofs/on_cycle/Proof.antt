@@ -18,7 +18,7 @@ closes-requires c κs =
 returns : tie.Need-returns
 returns c =
     let s = c .before .before .before .before .before .before in
-    cycle-found _ _ _ (s .pre .0) (s .pre .1) (ap (λ w. w .marks) (c .before .before .before .run .ensures)) (c .closes .ensures)
+    cycle-found _ _ _ (s .pre .0) (s .pre .1) (ap (λ w. w .marks) (c .before .before .before .run .ensures .0)) (c .closes .ensures)
 
 pub on-cycle-spec : {M : Type 1} → statement M
 on-cycle-spec =

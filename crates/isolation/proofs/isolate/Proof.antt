@@ -8,46 +8,58 @@ use Rattle.format.specs.declared.Checked
 use Rattle.format.specs.declared.Checked.{Checked}
 use Rattle.format.specs.Refusals.{checkedValues}
 use Rattle.format.proofs.NumberedLaws.{kind-some}
-use Rattle.isolation.proofs.PreparedLaws.{answer-refused, sized, tabled}
+use Rattle.isolation.proofs.PreparedLaws.{answer-refused, sized, prepared-check, tabled}
 use Rattle.isolation.proofs.isolate.Statement.{statement}
 use Rattle.isolation.proofs.isolate.Tie as tie
 
-returns : tie.Need-returns
-returns c = let z = sized _ (λ i. c .before .before .before .before .before .before .before .before .before .before .before .before .before .before .before .before .before .before .shared-slice-known .given i .fits) 0 (checkedValues (Checked.Accepted (c .before .before .c .given .0 .0))) refl (sym (ap checkedValues (c .before .before .c .given .1)) ∙ c .before .before .before .before .before .before .before .before .before .prepare .ensures .0) in absurd (omega (arith, c .if1 .taken, z .registers, z .few))
-
-returns-2 : tie.Need-returns-2
-returns-2 c = let z = sized _ (λ i. c .before .before .before .before .before .before .before .before .before .before .before .before .before .before .before .before .before .before .before .shared-slice-known .given i .fits) 0 (checkedValues (Checked.Accepted (c .before .before .before .c .given .0 .0))) refl (sym (ap checkedValues (c .before .before .before .c .given .1)) ∙ c .before .before .before .before .before .before .before .before .before .before .prepare .ensures .0) in absurd (omega (arith, c .if2 .taken, z .nodes, z .fewer))
+array-share-prefix-keys : tie.Need-array-share-prefix-keys
+array-share-prefix-keys c =
+    let z = sized _ (λ i. c .before .before .before .before .before .before .before .before .before .before .before .before .before .before .before .before .before .before .shared-slice-known .given i .fits) (checkedValues (Checked.Accepted (c .before .before .c .given .0 .0))) refl (sym (ap checkedValues (c .before .before .c .given .1)) ∙ c .before .before .before .before .before .before .before .before .before .prepare .ensures .0 ∙ prepared-check _ (λ i. c .before .before .before .before .before .before .before .before .before .before .before .before .before .before .before .before .before .before .shared-slice-known .given i .fits) _ (length-replicate {A = ℕ} 1024 0) (length-replicate {A = ℕ} 256 0) (length-replicate {A = ℕ} 256 0) (length-replicate {A = ℕ} 16384 0) refl) in
+    omega (arith, c .before .before .before .before .before .before .before .before .keys2 .given, z .registers, z .few)
 
 slice-aggregate-answer : tie.Need-slice-aggregate-answer
 slice-aggregate-answer c =
-    let t = c .before .before .before .before .before .before .before .before .before .before .before .before .prepare .last .1 .1 .0 in
-    let n = c .before .before .before .before .before .c .given .0 .0 .«register_instances» in
-    let h : n ≤ length t = omega (arith, c .before .before .before .before .before .before .before .before .before .before .before .keys2 .given, c .before .before .before .if1 .left) in
+    let z = sized _ (λ i. c .before .before .before .before .before .before .before .before .before .before .before .before .before .before .before .before .before .before .before .shared-slice-known .given i .fits) (checkedValues (Checked.Accepted (c .before .before .before .c .given .0 .0))) refl (sym (ap checkedValues (c .before .before .before .c .given .1)) ∙ c .before .before .before .before .before .before .before .before .before .before .prepare .ensures .0 ∙ prepared-check _ (λ i. c .before .before .before .before .before .before .before .before .before .before .before .before .before .before .before .before .before .before .before .shared-slice-known .given i .fits) _ (length-replicate {A = ℕ} 1024 0) (length-replicate {A = ℕ} 256 0) (length-replicate {A = ℕ} 256 0) (length-replicate {A = ℕ} 16384 0) refl) in
+    let t = c .before .before .before .before .before .before .before .before .before .before .prepare .last .1 .1 .0 in
+    let n = c .before .before .before .c .given .0 .0 .«register_instances» in
+    let h : n ≤ length t = omega (arith, c .before .before .before .before .before .before .before .before .before .keys2 .given, z .registers, z .few) in
     sym (length-take-le n t h)
+
+array-share-prefix-nodes : tie.Need-array-share-prefix-nodes
+array-share-prefix-nodes c =
+    let z = sized _ (λ i. c .before .before .before .before .before .before .before .before .before .before .before .before .before .before .before .before .before .before .before .shared-slice-known .given i .fits) (checkedValues (Checked.Accepted (c .before .before .before .c .given .0 .0))) refl (sym (ap checkedValues (c .before .before .before .c .given .1)) ∙ c .before .before .before .before .before .before .before .before .before .before .prepare .ensures .0 ∙ prepared-check _ (λ i. c .before .before .before .before .before .before .before .before .before .before .before .before .before .before .before .before .before .before .before .shared-slice-known .given i .fits) _ (length-replicate {A = ℕ} 1024 0) (length-replicate {A = ℕ} 256 0) (length-replicate {A = ℕ} 256 0) (length-replicate {A = ℕ} 16384 0) refl) in
+    omega (arith, c .before .before .before .before .before .before .before .before .nodes2 .given, z .nodes, z .fewer)
 
 slice-aggregate-answer-2 : tie.Need-slice-aggregate-answer-2
 slice-aggregate-answer-2 c =
-    let t = c .before .before .before .before .before .before .before .before .before .before .before .before .before .prepare .last .1 .1 .1 .0 in
-    let n = c .before .before .before .before .before .before .c .given .0 .0 .«node_instances» in
-    let h : n ≤ length t = omega (arith, c .before .before .before .before .before .before .before .before .before .before .before .nodes2 .given, c .before .before .before .if2 .left) in
+    let z = sized _ (λ i. c .before .before .before .before .before .before .before .before .before .before .before .before .before .before .before .before .before .before .before .before .shared-slice-known .given i .fits) (checkedValues (Checked.Accepted (c .before .before .before .before .c .given .0 .0))) refl (sym (ap checkedValues (c .before .before .before .before .c .given .1)) ∙ c .before .before .before .before .before .before .before .before .before .before .before .prepare .ensures .0 ∙ prepared-check _ (λ i. c .before .before .before .before .before .before .before .before .before .before .before .before .before .before .before .before .before .before .before .before .shared-slice-known .given i .fits) _ (length-replicate {A = ℕ} 1024 0) (length-replicate {A = ℕ} 256 0) (length-replicate {A = ℕ} 256 0) (length-replicate {A = ℕ} 16384 0) refl) in
+    let t = c .before .before .before .before .before .before .before .before .before .before .before .prepare .last .1 .1 .1 .0 in
+    let n = c .before .before .before .before .c .given .0 .0 .«node_instances» in
+    let h : n ≤ length t = omega (arith, c .before .before .before .before .before .before .before .before .before .nodes2 .given, z .nodes, z .fewer) in
     sym (length-take-le n t h)
+
+array-share-prefix-rules : tie.Need-array-share-prefix-rules
+array-share-prefix-rules c =
+    let z = sized _ (λ i. c .before .before .before .before .before .before .before .before .before .before .before .before .before .before .before .before .before .before .before .before .shared-slice-known .given i .fits) (checkedValues (Checked.Accepted (c .before .before .before .before .c .given .0 .0))) refl (sym (ap checkedValues (c .before .before .before .before .c .given .1)) ∙ c .before .before .before .before .before .before .before .before .before .before .before .prepare .ensures .0 ∙ prepared-check _ (λ i. c .before .before .before .before .before .before .before .before .before .before .before .before .before .before .before .before .before .before .before .before .shared-slice-known .given i .fits) _ (length-replicate {A = ℕ} 1024 0) (length-replicate {A = ℕ} 256 0) (length-replicate {A = ℕ} 256 0) (length-replicate {A = ℕ} 16384 0) refl) in
+    omega (arith, c .before .before .before .before .before .before .before .before .rules2 .given, z .nodes, z .fewer)
 
 slice-aggregate-answer-3 : tie.Need-slice-aggregate-answer-3
 slice-aggregate-answer-3 c =
-    let t = c .before .before .before .before .before .before .before .before .before .before .before .before .before .before .prepare .last .1 .1 .1 .1 .0 in
-    let n = c .before .before .before .before .before .before .before .c .given .0 .0 .«node_instances» in
-    let h : n ≤ length t = omega (arith, c .before .before .before .before .before .before .before .before .before .before .before .rules2 .given, c .before .before .before .before .if2 .left) in
+    let z = sized _ (λ i. c .before .before .before .before .before .before .before .before .before .before .before .before .before .before .before .before .before .before .before .before .before .shared-slice-known .given i .fits) (checkedValues (Checked.Accepted (c .before .before .before .before .before .c .given .0 .0))) refl (sym (ap checkedValues (c .before .before .before .before .before .c .given .1)) ∙ c .before .before .before .before .before .before .before .before .before .before .before .before .prepare .ensures .0 ∙ prepared-check _ (λ i. c .before .before .before .before .before .before .before .before .before .before .before .before .before .before .before .before .before .before .before .before .before .shared-slice-known .given i .fits) _ (length-replicate {A = ℕ} 1024 0) (length-replicate {A = ℕ} 256 0) (length-replicate {A = ℕ} 256 0) (length-replicate {A = ℕ} 16384 0) refl) in
+    let t = c .before .before .before .before .before .before .before .before .before .before .before .before .prepare .last .1 .1 .1 .1 .0 in
+    let n = c .before .before .before .before .before .c .given .0 .0 .«node_instances» in
+    let h : n ≤ length t = omega (arith, c .before .before .before .before .before .before .before .before .before .rules2 .given, z .nodes, z .fewer) in
     sym (length-take-le n t h)
 
-returns-3 : tie.Need-returns-3
-returns-3 c =
-    let z = sized _ (λ i. c .before .before .before .before .before .before .before .before .before .before .before .before .before .before .before .before .before .before .before .before .before .before .before .before .before .before .before .shared-slice-known .given i .fits) _ (checkedValues (Checked.Accepted (c .before .before .before .before .before .before .before .before .before .before .before .c .given .0 .0))) refl (sym (ap checkedValues (c .before .before .before .before .before .before .before .before .before .before .before .c .given .1)) ∙ c .before .before .before .before .before .before .before .before .before .before .before .before .before .before .before .before .before .before .prepare .ensures .0) in
-    let y = tabled _ (λ i. c .before .before .before .before .before .before .before .before .before .before .before .before .before .before .before .before .before .before .before .before .before .before .before .before .before .before .before .shared-slice-known .given i .fits) _ _ _ _ z _ (length-replicate {A = ℕ} 1024 0) (length-replicate {A = ℕ} 256 0) (length-replicate {A = ℕ} 256 0) (length-replicate {A = ℕ} 16384 0) refl (c .before .before .before .before .before .before .before .before .before .before .before .before .before .before .before .before .before .before .prepare .ensures .1) in
+returns : tie.Need-returns
+returns c =
+    let z = sized _ (λ i. c .before .before .before .before .before .before .before .before .before .before .before .before .before .before .before .before .before .before .before .before .before .before .before .before .before .shared-slice-known .given i .fits) (checkedValues (Checked.Accepted (c .before .before .before .before .before .before .before .before .before .c .given .0 .0))) refl (sym (ap checkedValues (c .before .before .before .before .before .before .before .before .before .c .given .1)) ∙ c .before .before .before .before .before .before .before .before .before .before .before .before .before .before .before .before .prepare .ensures .0 ∙ prepared-check _ (λ i. c .before .before .before .before .before .before .before .before .before .before .before .before .before .before .before .before .before .before .before .before .before .before .before .before .before .shared-slice-known .given i .fits) _ (length-replicate {A = ℕ} 1024 0) (length-replicate {A = ℕ} 256 0) (length-replicate {A = ℕ} 256 0) (length-replicate {A = ℕ} 16384 0) refl) in
+    let made = c .before .before .before .before .before .before .before .before .before .before .before .before .before .before .before .before .prepare .ensures .1 in
+    let y = tabled _ (λ i. c .before .before .before .before .before .before .before .before .before .before .before .before .before .before .before .before .before .before .before .before .before .before .before .before .before .shared-slice-known .given i .fits) _ (length-replicate {A = ℕ} 1024 0) (length-replicate {A = ℕ} 256 0) (length-replicate {A = ℕ} 256 0) (length-replicate {A = ℕ} 16384 0) refl _ z made in
     c .before .before .answer .ensures (y .0) (y .1)
 
-returns-4 : tie.Need-returns-4
-returns-4 c =
-    answer-refused _ _ _ _ _ (kind-some (c .before .c2 .given .0 .0 .kind)) (sym (ap checkedValues (c .before .c2 .given .1)) ∙ c .before .before .before .before .before .before .before .before .prepare .ensures .0)
+returns-2 : tie.Need-returns-2
+returns-2 c = answer-refused _ _ _ _ _ (kind-some (c .before .c2 .given .0 .0 .kind)) (sym (ap checkedValues (c .before .c2 .given .1)) ∙ c .before .before .before .before .before .before .before .before .prepare .ensures .0 ∙ prepared-check _ (λ i. c .before .before .before .before .before .before .before .before .before .before .before .before .before .before .before .before .before .shared-slice-known .given i .fits) _ (length-replicate {A = ℕ} 1024 0) (length-replicate {A = ℕ} 256 0) (length-replicate {A = ℕ} 256 0) (length-replicate {A = ℕ} 16384 0) refl)
 
 pub isolate-spec : {M : Type 1} → statement M
 isolate-spec =
@@ -60,18 +72,16 @@ isolate-spec =
     (λ c. search needs)
     (λ c κs. search needs)
     (λ c. search needs)
-    returns
-    returns-2
     (λ c. search needs)
-    (λ c. search needs)
+    array-share-prefix-keys
     slice-aggregate-answer
-    (λ c. search needs)
+    array-share-prefix-nodes
     slice-aggregate-answer-2
-    (λ c. search needs)
+    array-share-prefix-rules
     slice-aggregate-answer-3
     (λ c. search needs)
     (λ c κs. search needs)
     (λ c. search needs)
     (λ c. search needs)
-    returns-3
-    returns-4)
+    returns
+    returns-2)

@@ -8,7 +8,7 @@ use lib.ListN.{length}
 use Rattle.index.specs.Rows.{ReadAgain, entryPlace}
 use Rattle.links.specs.Links.{childRow}
 use Rattle.links.proofs.ChildrenLaws.{row-written}
-use Rattle.links.proofs.WritingLaws.{Writing, writing-begin, writing-next, writing-end, writing-full}
+use Rattle.tables.proofs.WritingLaws.{Writing, writing-begin, writing-next, writing-end, writing-full}
 use Rattle.links.proofs.fill_children.Statement.{statement}
 use Rattle.links.proofs.fill_children.Tie as tie
 

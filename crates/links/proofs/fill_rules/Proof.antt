@@ -6,9 +6,9 @@ use borrow.Author.Needs.{needs}
 use lib.ListN.{length}
 use Rattle.tables.specs.Tables.{written}
 use Rattle.index.specs.Rows.{ReadAgain, entryPlace}
-use Rattle.index.proofs.FillingLaws.{gathered-each}
+use Rattle.format.proofs.GatheredLaws.{gathered-each}
 use Rattle.links.specs.Links.{rulePlace}
-use Rattle.links.proofs.WritingLaws.{Writing, writing-begin, writing-next, writing-end, one-written}
+use Rattle.tables.proofs.WritingLaws.{Writing, writing-begin, writing-next, writing-end, one-written}
 use Rattle.links.proofs.fill_rules.Statement.{statement}
 use Rattle.links.proofs.fill_rules.Tie as tie
 

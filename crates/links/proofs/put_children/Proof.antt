@@ -7,7 +7,7 @@ use borrow.Author.Needs.{needs}
 use lib.ListN.{length}
 use Rattle.format.specs.NodeLayout.{childAt}
 use Rattle.format.specs.Parsed.{rowAt}
-use Rattle.links.specs.Links.{linked}
+use Rattle.links.specs.Links.{childrenPut}
 use Rattle.links.proofs.RowLaws.{Going, going-begin, going-next, going-end}
 use Rattle.links.proofs.ChildrenLaws.{link-next, linked-none}
 use Rattle.links.proofs.put_children.Statement.{statement}
@@ -15,7 +15,7 @@ use Rattle.links.proofs.put_children.Tie as tie
 
 abbrev Inv-loop : tie.InvT-loop
 Inv-loop s at n nodes child₀ k left₀ place₀ child left place =
-    (length child ≡ length child₀) × Going (childAt s true) (linked nodes child₀ k) (rowAt (childAt s true) n [] at) (linked nodes child k) left place
+    (length child ≡ length child₀) × Going (childAt s true) (childrenPut nodes child₀ k) (rowAt (childAt s true) n [] at) (childrenPut nodes child k) left place
 
 abbrev μ-loop : tie.MeasureT-loop
 μ-loop s at n nodes child₀ k left₀ place₀ child left place = left

@@ -25,7 +25,7 @@ put-row-requires c κs =
     let s = l .before .before .before .before .before .before in
     let t = c .before .loop-test .taken in
     let r = rows-room _ _ _ _ _ _ t (s .pre .1) (l .loop .inv .1) in
-    ((s .pre .0 .0, t, s .pre .0 .1, s .pre .0 .2), omega (arith, r, l .loop .inv .1 .same))
+    ((s .pre .0, t), omega (arith, r, l .loop .inv .1 .same))
 
 loop-again : tie.Need-loop-again Inv-loop μ-loop
 loop-again c =

@@ -1,19 +1,20 @@
 use mathlib.Core.Path.{sym, _∙_}
 use borrow.Author.Needs.{needs}
 use borrow.Author.Tests.{not-true, not-false}
-use Rattle.readings.proofs.RecordLaws.{file-size, no-words, no-read, has-room, lent-kept, lent-put}
+use Rattle.readings.proofs.RecordLaws.{file-size, no-words, no-read, no-fit, all-fit, lent-kept, lent-put}
 use Rattle.readings.proofs.decode.Statement.{statement}
 use Rattle.readings.proofs.decode.Tie as tie
 
 returns : tie.Need-returns
-returns c = (no-words _ _ _ _ (c .if1 .taken), (lent-kept _ _, lent-kept _ _))
+returns c = let d = no-words _ _ _ _ (c .if1 .taken) in (d .0, (lent-kept _ _ (d .1), lent-kept _ _ (d .1)))
 
 returns-2 : tie.Need-returns-2
-returns-2 c = (no-read _ _ _ _ (c .before .if1 .left) (c .if2 .taken), (lent-kept _ _, lent-kept _ _))
+returns-2 c = let d = no-read _ _ _ _ (c .before .if1 .left) (c .if2 .taken) in (d .0, (lent-kept _ _ (d .1), lent-kept _ _ (d .1)))
 
 returns-3 : tie.Need-returns-3
 returns-3 c =
-    (has-room _ _ _ _ (c .before .before .before .if1 .left) (c .before .before .if2 .left) (c .before .file-fits .ensures) (sym (not-true _ (c .if3 .taken))), (lent-kept _ _, lent-kept _ _))
+    let d = no-fit _ _ _ _ (c .before .before .before .if1 .left) (c .before .before .if2 .left) (sym (c .before .file-fits .ensures) ∙ not-true _ (c .if3 .taken)) in
+    (d .0, (lent-kept _ _ (d .1), lent-kept _ _ (d .1)))
 
 put-words-requires : tie.Need-put-words-requires
 put-words-requires c κs = (file-size _ _ (sym (c .before .before .file-fits .ensures) ∙ not-false _ (c .before .if3 .left)), c .before .before .before .before .if1 .left)
@@ -23,11 +24,12 @@ put-read-requires c κs = (file-size _ _ (sym (c .before .before .before .before
 
 returns-4 : tie.Need-returns-4
 returns-4 c =
-    let b = c .before .before .before .before .before .before .before .before .before in (
-      has-room _ _ _ _ (b .before .before .if1 .left) (b .before .if2 .left) (b .file-fits .ensures) (sym (not-false _ (c .before .before .before .before .before .before .before .before .if3 .left))),
+    let b = c .before .before .before .before .before .before .before .before .before in
+    let d = all-fit _ _ _ _ (b .before .before .if1 .left) (b .before .if2 .left) (sym (b .file-fits .ensures) ∙ not-false _ (c .before .before .before .before .before .before .before .before .if3 .left)) in (
+      d .0,
       (
-        lent-put _ _ _ _ (b .before .before .if1 .left) (c .before .before .before .before .before .before .put-words .ensures),
-        lent-put _ _ _ _ (b .before .if2 .left) (c .before .before .put-read .ensures),
+        lent-put _ _ _ _ (d .1) (b .before .before .if1 .left) (c .before .before .before .before .before .before .put-words .ensures),
+        lent-put _ _ _ _ (d .1) (b .before .if2 .left) (c .before .before .put-read .ensures),
       ),
     )
 

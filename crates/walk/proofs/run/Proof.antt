@@ -5,7 +5,7 @@ use native.Mathlib.Omega.{arith}
 use Rattle.walk.specs.TableGraph.{tableGraph}
 use Rattle.walk.specs.Marks.{stepWalk}
 use Rattle.walk.proofs.WalkLaws.{Walking}
-use Rattle.walk.proofs.RunLaws.{run-nowhere, run-start, run-ready, run-step, run-end}
+use Rattle.walk.proofs.RunLaws.{run-counted, run-nowhere, run-start, run-ready, run-step, run-end}
 use Rattle.walk.proofs.run.Statement.{statement}
 use Rattle.walk.proofs.run.Tie as tie
 
@@ -18,7 +18,7 @@ abbrev μ-loop : tie.MeasureT-loop
 returns : tie.Need-returns Inv-loop μ-loop
 returns c =
     let d = c .before .before in
-    run-nowhere _ _ _ _ (d .before .size .ensures) (c .before .if1 .taken) (d .start .ensures)
+    run-counted _ _ _ (run-nowhere _ _ _ _ (d .before .size .ensures) (c .before .if1 .taken) (d .start .ensures))
 
 loop-holds : tie.Need-loop-holds Inv-loop μ-loop
 loop-holds c = run-start _ _ _ _ (c .before .before .size .ensures) (c .if1 .left) (c .before .start .ensures)
@@ -48,7 +48,7 @@ returns-2 : tie.Need-returns-2 Inv-loop μ-loop
 returns-2 c =
     let b = c .before in
     let e = b .before .before .before in
-    run-end _ _ _ _ (e .before .before .size .ensures) (e .if1 .left) (b .before .before .loop .inv) (b .before .waiting .ensures) (b .if2 .left)
+    run-counted _ _ _ (run-end _ _ _ _ (e .before .before .size .ensures) (e .if1 .left) (b .before .before .loop .inv) (b .before .waiting .ensures) (b .if2 .left))
 
 pub run-spec : {M : Type 1} → statement M
 run-spec =

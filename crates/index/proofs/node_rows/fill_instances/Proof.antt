@@ -8,7 +8,8 @@ use borrow.Author.Needs.{needs}
 use Rattle.format.specs.Parsed.{rowAt}
 use Rattle.format.specs.NodeLayout.{nodeInstanceAt}
 use Rattle.index.specs.Rows.{filled, rowOf}
-use Rattle.index.proofs.FillingLaws.{Sized, sized-put, Filling, filling-begin, filling-next, filling-end, gathered-each, instance-put}
+use Rattle.index.proofs.FillingLaws.{Sized, sized-put, Filling, filling-begin, filling-next, filling-end, instance-put}
+use Rattle.format.proofs.GatheredLaws.{gathered-each}
 use Rattle.index.proofs.node_rows.fill_instances.Statement.{statement}
 use Rattle.index.proofs.node_rows.fill_instances.Tie as tie
 

@@ -2,7 +2,7 @@ use mathlib.Core.Path.{refl, sym, _∙_, ap}
 use native.Mathlib.Omega.{arith}
 use borrow.Author.Needs.{needs}
 use Rattle.format.specs.Refusals.{addressValues}
-use Rattle.reader.proofs.AddressLaws.{address-within, address-short, part-is, part-none}
+use Rattle.reader.proofs.AddressLaws.{address-within, address-short, part-is, part-none, part-place}
 use Rattle.reader.proofs.address.address_part.Statement.{statement}
 use Rattle.reader.proofs.address.address_part.Tie as tie
 
@@ -16,10 +16,14 @@ part-result-end : tie.Need-part-result-end
 part-result-end c = let h = (address-within _ (λ i. c .before .before .before .before .shared-slice-known .given i .fits) _ _ (sym (ap addressValues (c .before .a .given .1)) ∙ c .before .before .before .address .ensures)) in omega (arith, h)
 
 returns : tie.Need-returns
-returns c = part-is _ _ _ (sym (ap addressValues (c .before .before .a .given .1)) ∙ c .before .before .before .before .address .ensures) refl
+returns c =
+    let e = sym (ap addressValues (c .before .before .a .given .1)) ∙ c .before .before .before .before .address .ensures in
+    ((refl, part-place _ _ _ _ e), part-is _ _ _ e refl)
 
 returns-2 : tie.Need-returns-2
-returns-2 c = part-none _ _ _ (sym (ap addressValues (c .before .enum-told .given .1)) ∙ c .before .before .before .address .ensures) refl
+returns-2 c =
+    let e = sym (ap addressValues (c .before .enum-told .given .1)) ∙ c .before .before .before .address .ensures in
+    ((refl, part-place _ _ _ _ e), part-none _ _ _ e refl)
 
 pub address-part-spec : {M : Type 1} → statement M
 address-part-spec =

@@ -6,8 +6,15 @@ use Rattle.format.specs.Parsed.{making}
 use Rattle.fields.specs.Views.{nextParsed}
 use Rattle.reader.specs.Layout.{layoutParsed}
 use Rattle.reader.proofs.ExamineLaws.{examined-refused, laid-out, examined-faulty, examined-clean}
+use Rattle.reader.proofs.FaultsLaws.{within-limits}
+use Rattle.reader.proofs.WholeLaws.{whole-out}
 use Rattle.reader.proofs.file.examine.Statement.{statement}
 use Rattle.reader.proofs.file.examine.Tie as tie
+
+faults-requires : tie.Need-faults-requires
+faults-requires c κs =
+    within-limits _ (λ i. c .before .before .before .before .shared-slice-known .given i .fits)
+    (sym (whole-out _ (sym (ap layoutParsed (c .before .w .given .1)) ∙ c .before .before .before .whole .ensures) .layout))
 
 returns : tie.Need-returns
 unfolding making
@@ -32,7 +39,7 @@ examine-spec =
     (tie.spec
     (λ c κs. search needs)
     (λ c. search needs)
-    (λ c κs. search needs)
+    faults-requires
     (λ c. search needs)
     (λ c. search needs)
     (λ c. search needs)

@@ -1,13 +1,12 @@
 use borrow.Author.Needs.{needs}
 use Rattle.format.specs.FileLayout.{startAt}
 use Rattle.format.specs.Limits.{chipdata}
-use Rattle.reader.specs.Roots.{versionAt}
 use Rattle.fields.proofs.Steps.{steps}
 use Rattle.reader.proofs.roots.start_at.Statement.{statement}
 use Rattle.reader.proofs.roots.start_at.Tie as tie
 
 pub start-at-spec : {M : Type 1} → statement M
-unfolding startAt versionAt chipdata
+unfolding startAt chipdata
 start-at-spec =
     tie.close
     (tie.spec

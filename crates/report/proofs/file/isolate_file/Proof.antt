@@ -8,32 +8,32 @@ use Rattle.format.specs.declared.Checked
 use Rattle.format.specs.declared.Checked.{Checked}
 use Rattle.format.specs.Refusals.{checkedValues}
 use Rattle.format.proofs.NumberedLaws.{kind-some}
-use Rattle.isolation.proofs.PreparedLaws.{sized, tabled}
+use Rattle.isolation.proofs.PreparedLaws.{sized, prepared-check, tabled}
 use Rattle.report.proofs.FileLaws.{answer-file}
 use Rattle.report.proofs.file.isolate_file.Statement.{statement}
 use Rattle.report.proofs.file.isolate_file.Tie as tie
 
-returns : tie.Need-returns
-returns c =
-    let z = sized _ (λ i. c .before .before .before .before .before .before .before .before .before .before .before .before .before .before .before .before .before .shared-slice-known .given i .fits) 0 (checkedValues (Checked.Accepted (c .before .before .c .given .0 .0))) refl (sym (ap checkedValues (c .before .before .c .given .1)) ∙ c .before .before .before .before .before .before .before .before .before .prepare .ensures .0) in
-    absurd (omega (arith, c .if1 .taken, z .registers, z .few))
+array-share-prefix-keys : tie.Need-array-share-prefix-keys
+array-share-prefix-keys c =
+    let z = sized _ (λ i. c .before .before .before .before .before .before .before .before .before .before .before .before .before .before .before .before .shared-slice-known .given i .fits) (checkedValues (Checked.Accepted (c .before .c .given .0 .0))) refl (sym (ap checkedValues (c .before .c .given .1)) ∙ c .before .before .before .before .before .before .before .before .prepare .ensures .0 ∙ prepared-check _ (λ i. c .before .before .before .before .before .before .before .before .before .before .before .before .before .before .before .before .shared-slice-known .given i .fits) _ (length-replicate {A = ℕ} 1024 0) (length-replicate {A = ℕ} 256 0) (length-replicate {A = ℕ} 256 0) (length-replicate {A = ℕ} 16384 0) refl) in
+    omega (arith, c .before .before .before .before .before .before .before .keys2 .given, z .registers, z .few)
 
 slice-aggregate-isolate-named : tie.Need-slice-aggregate-isolate-named
 slice-aggregate-isolate-named c =
-    let t = c .before .before .before .before .before .before .before .before .before .before .prepare .last .1 .1 .0 in
-    let n = c .before .before .before .c .given .0 .0 .«register_instances» in
-    let h : n ≤ length t = omega (arith, c .before .before .before .before .before .before .before .before .before .keys2 .given, c .before .if1 .left) in
+    let z = sized _ (λ i. c .before .before .before .before .before .before .before .before .before .before .before .before .before .before .before .before .before .shared-slice-known .given i .fits) (checkedValues (Checked.Accepted (c .before .before .c .given .0 .0))) refl (sym (ap checkedValues (c .before .before .c .given .1)) ∙ c .before .before .before .before .before .before .before .before .before .prepare .ensures .0 ∙ prepared-check _ (λ i. c .before .before .before .before .before .before .before .before .before .before .before .before .before .before .before .before .before .shared-slice-known .given i .fits) _ (length-replicate {A = ℕ} 1024 0) (length-replicate {A = ℕ} 256 0) (length-replicate {A = ℕ} 256 0) (length-replicate {A = ℕ} 16384 0) refl) in
+    let t = c .before .before .before .before .before .before .before .before .before .prepare .last .1 .1 .0 in
+    let n = c .before .before .c .given .0 .0 .«register_instances» in
+    let h : n ≤ length t = omega (arith, c .before .before .before .before .before .before .before .before .keys2 .given, z .registers, z .few) in
     sym (length-take-le n t h)
 
-returns-2 : tie.Need-returns-2
-returns-2 c =
-    let z = sized _ (λ i. c .before .before .before .before .before .before .before .before .before .before .before .before .before .before .before .before .before .before .before .before .before .before .shared-slice-known .given i .fits) _ (checkedValues (Checked.Accepted (c .before .before .before .before .before .before .before .c .given .0 .0))) refl (sym (ap checkedValues (c .before .before .before .before .before .before .before .c .given .1)) ∙ c .before .before .before .before .before .before .before .before .before .before .before .before .before .before .prepare .ensures .0) in
-    let y = tabled _ (λ i. c .before .before .before .before .before .before .before .before .before .before .before .before .before .before .before .before .before .before .before .before .before .before .shared-slice-known .given i .fits) _ _ _ _ z _ (length-replicate {A = ℕ} 1024 0) (length-replicate {A = ℕ} 256 0) (length-replicate {A = ℕ} 256 0) (length-replicate {A = ℕ} 16384 0) refl (c .before .before .before .before .before .before .before .before .before .before .before .before .before .before .prepare .ensures .1) in
+returns : tie.Need-returns
+returns c =
+    let z = sized _ (λ i. c .before .before .before .before .before .before .before .before .before .before .before .before .before .before .before .before .before .before .before .before .before .shared-slice-known .given i .fits) (checkedValues (Checked.Accepted (c .before .before .before .before .before .before .c .given .0 .0))) refl (sym (ap checkedValues (c .before .before .before .before .before .before .c .given .1)) ∙ c .before .before .before .before .before .before .before .before .before .before .before .before .before .prepare .ensures .0 ∙ prepared-check _ (λ i. c .before .before .before .before .before .before .before .before .before .before .before .before .before .before .before .before .before .before .before .before .before .shared-slice-known .given i .fits) _ (length-replicate {A = ℕ} 1024 0) (length-replicate {A = ℕ} 256 0) (length-replicate {A = ℕ} 256 0) (length-replicate {A = ℕ} 16384 0) refl) in
+    let y = tabled _ (λ i. c .before .before .before .before .before .before .before .before .before .before .before .before .before .before .before .before .before .before .before .before .before .shared-slice-known .given i .fits) _ (length-replicate {A = ℕ} 1024 0) (length-replicate {A = ℕ} 256 0) (length-replicate {A = ℕ} 256 0) (length-replicate {A = ℕ} 16384 0) refl _ z (c .before .before .before .before .before .before .before .before .before .before .before .before .before .prepare .ensures .1) in
     c .before .before .isolate-named .ensures (y .0 .chip) (y .0 .end) (y .0 .accepted) (y .0 .keys-are)
 
-returns-3 : tie.Need-returns-3
-returns-3 c =
-    answer-file _ _ _ _ (kind-some (c .before .c2 .given .0 .0 .kind)) (sym (ap checkedValues (c .before .c2 .given .1)) ∙ c .before .before .before .before .before .before .before .before .prepare .ensures .0)
+returns-2 : tie.Need-returns-2
+returns-2 c = answer-file _ _ _ _ (kind-some (c .before .c2 .given .0 .0 .kind)) (sym (ap checkedValues (c .before .c2 .given .1)) ∙ c .before .before .before .before .before .before .before .before .prepare .ensures .0 ∙ prepared-check _ (λ i. c .before .before .before .before .before .before .before .before .before .before .before .before .before .before .before .before .shared-slice-known .given i .fits) _ (length-replicate {A = ℕ} 1024 0) (length-replicate {A = ℕ} 256 0) (length-replicate {A = ℕ} 256 0) (length-replicate {A = ℕ} 16384 0) refl)
 
 pub isolate-file-spec : {M : Type 1} → statement M
 isolate-file-spec =
@@ -46,11 +46,10 @@ isolate-file-spec =
     (λ c. search needs)
     (λ c κs. search needs)
     (λ c. search needs)
-    returns
-    (λ c. search needs)
+    array-share-prefix-keys
     slice-aggregate-isolate-named
     (λ c κs. search needs)
     (λ c. search needs)
     (λ c. search needs)
-    returns-2
-    returns-3)
+    returns
+    returns-2)

@@ -1,0 +1,2 @@
+-- What the station prints.
+pub mod Printed

@@ -1,0 +1,2 @@
+-- The laws of the names in an expression and their faults.
+pub mod JudgedLaws
