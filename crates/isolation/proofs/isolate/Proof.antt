@@ -14,52 +14,79 @@ use Rattle.isolation.proofs.isolate.Tie as tie
 
 array-share-prefix-keys : tie.Need-array-share-prefix-keys
 array-share-prefix-keys c =
-    let z = sized _ (λ i. c .before .before .before .before .before .before .before .before .before .before .before .before .before .before .before .before .before .before .shared-slice-known .given i .fits) (checkedValues (Checked.Accepted (c .before .before .c .given .0 .0))) refl (sym (ap checkedValues (c .before .before .c .given .1)) ∙ c .before .before .before .before .before .before .before .before .before .prepare .ensures .0 ∙ prepared-check _ (λ i. c .before .before .before .before .before .before .before .before .before .before .before .before .before .before .before .before .before .before .shared-slice-known .given i .fits) _ (length-replicate {A = ℕ} 1024 0) (length-replicate {A = ℕ} 256 0) (length-replicate {A = ℕ} 256 0) (length-replicate {A = ℕ} 16384 0) refl) in
-    omega (arith, c .before .before .before .before .before .before .before .before .keys2 .given, z .registers, z .few)
+    let p1 = c .before .before .before .before .before .before .before .before in
+    let p2 = p1 .before in
+    let p3 = p2 .before .before .before .before .before .before .before .before .before in
+    let z = sized _ (λ i. p3 .shared-slice-known .given i .fits) (checkedValues (Checked.Accepted (c .before .before .c .given .0 .0))) refl (sym (ap checkedValues (c .before .before .c .given .1)) ∙ p2 .prepare .ensures .0 ∙ prepared-check _ (λ i. p3 .shared-slice-known .given i .fits) _ (length-replicate {A = ℕ} 1024 0) (length-replicate {A = ℕ} 256 0) (length-replicate {A = ℕ} 256 0) (length-replicate {A = ℕ} 16384 0) refl) in
+    omega (arith, p1 .keys2 .given, z .registers, z .few)
 
 slice-aggregate-answer : tie.Need-slice-aggregate-answer
 slice-aggregate-answer c =
-    let z = sized _ (λ i. c .before .before .before .before .before .before .before .before .before .before .before .before .before .before .before .before .before .before .before .shared-slice-known .given i .fits) (checkedValues (Checked.Accepted (c .before .before .before .c .given .0 .0))) refl (sym (ap checkedValues (c .before .before .before .c .given .1)) ∙ c .before .before .before .before .before .before .before .before .before .before .prepare .ensures .0 ∙ prepared-check _ (λ i. c .before .before .before .before .before .before .before .before .before .before .before .before .before .before .before .before .before .before .before .shared-slice-known .given i .fits) _ (length-replicate {A = ℕ} 1024 0) (length-replicate {A = ℕ} 256 0) (length-replicate {A = ℕ} 256 0) (length-replicate {A = ℕ} 16384 0) refl) in
-    let t = c .before .before .before .before .before .before .before .before .before .before .prepare .last .1 .1 .0 in
+    let p1 = c .before .before .before .before .before .before .before .before .before in
+    let p2 = p1 .before in
+    let p3 = p2 .before .before .before .before .before .before .before .before .before in
+    let z = sized _ (λ i. p3 .shared-slice-known .given i .fits) (checkedValues (Checked.Accepted (c .before .before .before .c .given .0 .0))) refl (sym (ap checkedValues (c .before .before .before .c .given .1)) ∙ p2 .prepare .ensures .0 ∙ prepared-check _ (λ i. p3 .shared-slice-known .given i .fits) _ (length-replicate {A = ℕ} 1024 0) (length-replicate {A = ℕ} 256 0) (length-replicate {A = ℕ} 256 0) (length-replicate {A = ℕ} 16384 0) refl) in
+    let t = p2 .prepare .last .1 .1 .0 in
     let n = c .before .before .before .c .given .0 .0 .«register_instances» in
-    let h : n ≤ length t = omega (arith, c .before .before .before .before .before .before .before .before .before .keys2 .given, z .registers, z .few) in
+    let h : n ≤ length t = omega (arith, p1 .keys2 .given, z .registers, z .few) in
     sym (length-take-le n t h)
 
 array-share-prefix-nodes : tie.Need-array-share-prefix-nodes
 array-share-prefix-nodes c =
-    let z = sized _ (λ i. c .before .before .before .before .before .before .before .before .before .before .before .before .before .before .before .before .before .before .before .shared-slice-known .given i .fits) (checkedValues (Checked.Accepted (c .before .before .before .c .given .0 .0))) refl (sym (ap checkedValues (c .before .before .before .c .given .1)) ∙ c .before .before .before .before .before .before .before .before .before .before .prepare .ensures .0 ∙ prepared-check _ (λ i. c .before .before .before .before .before .before .before .before .before .before .before .before .before .before .before .before .before .before .before .shared-slice-known .given i .fits) _ (length-replicate {A = ℕ} 1024 0) (length-replicate {A = ℕ} 256 0) (length-replicate {A = ℕ} 256 0) (length-replicate {A = ℕ} 16384 0) refl) in
-    omega (arith, c .before .before .before .before .before .before .before .before .nodes2 .given, z .nodes, z .fewer)
+    let p1 = c .before .before .before .before .before .before .before .before in
+    let p2 = p1 .before .before in
+    let p3 = p2 .before .before .before .before .before .before .before .before .before in
+    let z = sized _ (λ i. p3 .shared-slice-known .given i .fits) (checkedValues (Checked.Accepted (c .before .before .before .c .given .0 .0))) refl (sym (ap checkedValues (c .before .before .before .c .given .1)) ∙ p2 .prepare .ensures .0 ∙ prepared-check _ (λ i. p3 .shared-slice-known .given i .fits) _ (length-replicate {A = ℕ} 1024 0) (length-replicate {A = ℕ} 256 0) (length-replicate {A = ℕ} 256 0) (length-replicate {A = ℕ} 16384 0) refl) in
+    omega (arith, p1 .nodes2 .given, z .nodes, z .fewer)
 
 slice-aggregate-answer-2 : tie.Need-slice-aggregate-answer-2
 slice-aggregate-answer-2 c =
-    let z = sized _ (λ i. c .before .before .before .before .before .before .before .before .before .before .before .before .before .before .before .before .before .before .before .before .shared-slice-known .given i .fits) (checkedValues (Checked.Accepted (c .before .before .before .before .c .given .0 .0))) refl (sym (ap checkedValues (c .before .before .before .before .c .given .1)) ∙ c .before .before .before .before .before .before .before .before .before .before .before .prepare .ensures .0 ∙ prepared-check _ (λ i. c .before .before .before .before .before .before .before .before .before .before .before .before .before .before .before .before .before .before .before .before .shared-slice-known .given i .fits) _ (length-replicate {A = ℕ} 1024 0) (length-replicate {A = ℕ} 256 0) (length-replicate {A = ℕ} 256 0) (length-replicate {A = ℕ} 16384 0) refl) in
-    let t = c .before .before .before .before .before .before .before .before .before .before .before .prepare .last .1 .1 .1 .0 in
-    let n = c .before .before .before .before .c .given .0 .0 .«node_instances» in
-    let h : n ≤ length t = omega (arith, c .before .before .before .before .before .before .before .before .before .nodes2 .given, z .nodes, z .fewer) in
+    let p1 = c .before .before .before .before in
+    let p2 = p1 .before .before .before .before .before in
+    let p3 = p2 .before .before in
+    let p4 = p3 .before .before .before .before .before .before .before .before .before in
+    let z = sized _ (λ i. p4 .shared-slice-known .given i .fits) (checkedValues (Checked.Accepted (p1 .c .given .0 .0))) refl (sym (ap checkedValues (p1 .c .given .1)) ∙ p3 .prepare .ensures .0 ∙ prepared-check _ (λ i. p4 .shared-slice-known .given i .fits) _ (length-replicate {A = ℕ} 1024 0) (length-replicate {A = ℕ} 256 0) (length-replicate {A = ℕ} 256 0) (length-replicate {A = ℕ} 16384 0) refl) in
+    let t = p3 .prepare .last .1 .1 .1 .0 in
+    let n = p1 .c .given .0 .0 .«node_instances» in
+    let h : n ≤ length t = omega (arith, p2 .nodes2 .given, z .nodes, z .fewer) in
     sym (length-take-le n t h)
 
 array-share-prefix-rules : tie.Need-array-share-prefix-rules
 array-share-prefix-rules c =
-    let z = sized _ (λ i. c .before .before .before .before .before .before .before .before .before .before .before .before .before .before .before .before .before .before .before .before .shared-slice-known .given i .fits) (checkedValues (Checked.Accepted (c .before .before .before .before .c .given .0 .0))) refl (sym (ap checkedValues (c .before .before .before .before .c .given .1)) ∙ c .before .before .before .before .before .before .before .before .before .before .before .prepare .ensures .0 ∙ prepared-check _ (λ i. c .before .before .before .before .before .before .before .before .before .before .before .before .before .before .before .before .before .before .before .before .shared-slice-known .given i .fits) _ (length-replicate {A = ℕ} 1024 0) (length-replicate {A = ℕ} 256 0) (length-replicate {A = ℕ} 256 0) (length-replicate {A = ℕ} 16384 0) refl) in
-    omega (arith, c .before .before .before .before .before .before .before .before .rules2 .given, z .nodes, z .fewer)
+    let p1 = c .before .before .before .before in
+    let p2 = p1 .before .before .before .before in
+    let p3 = p2 .before .before .before in
+    let p4 = p3 .before .before .before .before .before .before .before .before .before in
+    let z = sized _ (λ i. p4 .shared-slice-known .given i .fits) (checkedValues (Checked.Accepted (p1 .c .given .0 .0))) refl (sym (ap checkedValues (p1 .c .given .1)) ∙ p3 .prepare .ensures .0 ∙ prepared-check _ (λ i. p4 .shared-slice-known .given i .fits) _ (length-replicate {A = ℕ} 1024 0) (length-replicate {A = ℕ} 256 0) (length-replicate {A = ℕ} 256 0) (length-replicate {A = ℕ} 16384 0) refl) in
+    omega (arith, p2 .rules2 .given, z .nodes, z .fewer)
 
 slice-aggregate-answer-3 : tie.Need-slice-aggregate-answer-3
 slice-aggregate-answer-3 c =
-    let z = sized _ (λ i. c .before .before .before .before .before .before .before .before .before .before .before .before .before .before .before .before .before .before .before .before .before .shared-slice-known .given i .fits) (checkedValues (Checked.Accepted (c .before .before .before .before .before .c .given .0 .0))) refl (sym (ap checkedValues (c .before .before .before .before .before .c .given .1)) ∙ c .before .before .before .before .before .before .before .before .before .before .before .before .prepare .ensures .0 ∙ prepared-check _ (λ i. c .before .before .before .before .before .before .before .before .before .before .before .before .before .before .before .before .before .before .before .before .before .shared-slice-known .given i .fits) _ (length-replicate {A = ℕ} 1024 0) (length-replicate {A = ℕ} 256 0) (length-replicate {A = ℕ} 256 0) (length-replicate {A = ℕ} 16384 0) refl) in
-    let t = c .before .before .before .before .before .before .before .before .before .before .before .before .prepare .last .1 .1 .1 .1 .0 in
-    let n = c .before .before .before .before .before .c .given .0 .0 .«node_instances» in
-    let h : n ≤ length t = omega (arith, c .before .before .before .before .before .before .before .before .before .rules2 .given, z .nodes, z .fewer) in
+    let p1 = c .before .before .before .before .before in
+    let p2 = p1 .before .before .before .before in
+    let p3 = p2 .before .before .before in
+    let p4 = p3 .before .before .before .before .before .before .before .before .before in
+    let z = sized _ (λ i. p4 .shared-slice-known .given i .fits) (checkedValues (Checked.Accepted (p1 .c .given .0 .0))) refl (sym (ap checkedValues (p1 .c .given .1)) ∙ p3 .prepare .ensures .0 ∙ prepared-check _ (λ i. p4 .shared-slice-known .given i .fits) _ (length-replicate {A = ℕ} 1024 0) (length-replicate {A = ℕ} 256 0) (length-replicate {A = ℕ} 256 0) (length-replicate {A = ℕ} 16384 0) refl) in
+    let t = p3 .prepare .last .1 .1 .1 .1 .0 in
+    let n = p1 .c .given .0 .0 .«node_instances» in
+    let h : n ≤ length t = omega (arith, p2 .rules2 .given, z .nodes, z .fewer) in
     sym (length-take-le n t h)
 
 returns : tie.Need-returns
 returns c =
-    let z = sized _ (λ i. c .before .before .before .before .before .before .before .before .before .before .before .before .before .before .before .before .before .before .before .before .before .before .before .before .before .shared-slice-known .given i .fits) (checkedValues (Checked.Accepted (c .before .before .before .before .before .before .before .before .before .c .given .0 .0))) refl (sym (ap checkedValues (c .before .before .before .before .before .before .before .before .before .c .given .1)) ∙ c .before .before .before .before .before .before .before .before .before .before .before .before .before .before .before .before .prepare .ensures .0 ∙ prepared-check _ (λ i. c .before .before .before .before .before .before .before .before .before .before .before .before .before .before .before .before .before .before .before .before .before .before .before .before .before .shared-slice-known .given i .fits) _ (length-replicate {A = ℕ} 1024 0) (length-replicate {A = ℕ} 256 0) (length-replicate {A = ℕ} 256 0) (length-replicate {A = ℕ} 16384 0) refl) in
-    let made = c .before .before .before .before .before .before .before .before .before .before .before .before .before .before .before .before .prepare .ensures .1 in
-    let y = tabled _ (λ i. c .before .before .before .before .before .before .before .before .before .before .before .before .before .before .before .before .before .before .before .before .before .before .before .before .before .shared-slice-known .given i .fits) _ (length-replicate {A = ℕ} 1024 0) (length-replicate {A = ℕ} 256 0) (length-replicate {A = ℕ} 256 0) (length-replicate {A = ℕ} 16384 0) refl _ z made in
+    let p1 = c .before .before .before .before .before .before .before .before .before in
+    let p2 = p1 .before .before .before .before .before .before .before in
+    let p3 = p2 .before .before .before .before .before .before .before .before .before in
+    let z = sized _ (λ i. p3 .shared-slice-known .given i .fits) (checkedValues (Checked.Accepted (p1 .c .given .0 .0))) refl (sym (ap checkedValues (p1 .c .given .1)) ∙ p2 .prepare .ensures .0 ∙ prepared-check _ (λ i. p3 .shared-slice-known .given i .fits) _ (length-replicate {A = ℕ} 1024 0) (length-replicate {A = ℕ} 256 0) (length-replicate {A = ℕ} 256 0) (length-replicate {A = ℕ} 16384 0) refl) in
+    let made = p2 .prepare .ensures .1 in
+    let y = tabled _ (λ i. p3 .shared-slice-known .given i .fits) _ (length-replicate {A = ℕ} 1024 0) (length-replicate {A = ℕ} 256 0) (length-replicate {A = ℕ} 256 0) (length-replicate {A = ℕ} 16384 0) refl _ z made in
     c .before .before .answer .ensures (y .0) (y .1)
 
 returns-2 : tie.Need-returns-2
-returns-2 c = answer-refused _ _ _ _ _ (kind-some (c .before .c2 .given .0 .0 .kind)) (sym (ap checkedValues (c .before .c2 .given .1)) ∙ c .before .before .before .before .before .before .before .before .prepare .ensures .0 ∙ prepared-check _ (λ i. c .before .before .before .before .before .before .before .before .before .before .before .before .before .before .before .before .before .shared-slice-known .given i .fits) _ (length-replicate {A = ℕ} 1024 0) (length-replicate {A = ℕ} 256 0) (length-replicate {A = ℕ} 256 0) (length-replicate {A = ℕ} 16384 0) refl)
+returns-2 c =
+    let p1 = c .before .before .before .before .before .before .before .before in
+    let p2 = p1 .before .before .before .before .before .before .before .before .before in
+    answer-refused _ _ _ _ _ (kind-some (c .before .c2 .given .0 .0 .kind)) (sym (ap checkedValues (c .before .c2 .given .1)) ∙ p1 .prepare .ensures .0 ∙ prepared-check _ (λ i. p2 .shared-slice-known .given i .fits) _ (length-replicate {A = ℕ} 1024 0) (length-replicate {A = ℕ} 256 0) (length-replicate {A = ℕ} 256 0) (length-replicate {A = ℕ} 16384 0) refl)
 
 pub isolate-spec : {M : Type 1} → statement M
 isolate-spec =

@@ -31,8 +31,12 @@ returns c =
 
 returns-2 : tie.Need-returns-2 Inv-loop μ-loop
 returns-2 c =
-    going-stop _ _ (c .before .before .before .before .before .before .before .before .before .loop .inv) (c .before .before .before .before .before .before .before .before .loop-test .taken)
-    (λ before r m e. not-passed (rule-expression _ _ (sym (ap byteParsed (c .before .before .before .before .before .b .given .1)) ∙ c .before .before .before .before .before .before .before .byte-at .ensures) before r m e)
+    let p1 = c .before .before .before .before .before in
+    let p2 = p1 .before .before in
+    let p3 = p2 .before in
+    let p4 = p3 .before in
+    going-stop _ _ (p4 .loop .inv) (p3 .loop-test .taken)
+    (λ before r m e. not-passed (rule-expression _ _ (sym (ap byteParsed (p1 .b .given .1)) ∙ p2 .byte-at .ensures) before r m e)
     (sym (ap nextParsed (c .enum-told .given .1)) ∙ c .before .before .expression-at .ensures))
 
 returns-3 : tie.Need-returns-3 Inv-loop μ-loop
@@ -42,9 +46,14 @@ returns-3 c =
 
 loop-again : tie.Need-loop-again Inv-loop μ-loop
 loop-again c =
-    going-next _ _ (c .before .before .before .before .before .before .before .before .before .before .loop .inv) (c .before .before .before .before .before .before .before .before .before .loop-test .taken) _
-    (λ before r m e. rule-other _ _ (sym (ap byteParsed (c .before .before .before .before .before .before .b .given .1)) ∙ c .before .before .before .before .before .before .before .before .byte-at .ensures) before r m e
-    _ (c .before .before .before .before .if1 .left) (sym (ap nextParsed (c .before .e .given .1)) ∙ c .before .before .before .expression-at .ensures))
+    let p1 = c .before .before .before .before in
+    let p2 = p1 .before .before in
+    let p3 = p2 .before .before in
+    let p4 = p3 .before in
+    let p5 = p4 .before in
+    going-next _ _ (p5 .loop .inv) (p4 .loop-test .taken) _
+    (λ before r m e. rule-other _ _ (sym (ap byteParsed (p2 .b .given .1)) ∙ p3 .byte-at .ensures) before r m e
+    _ (p1 .if1 .left) (sym (ap nextParsed (c .before .e .given .1)) ∙ c .before .before .before .expression-at .ensures))
 
 returns-4 : tie.Need-returns-4 Inv-loop μ-loop
 returns-4 c = λ rs m e. rule-none _ ∙ going-end _ _ (c .before .loop .inv) (c .loop-test .left) rs m e

@@ -9,15 +9,24 @@ use Rattle.links.proofs.link_at.Tie as tie
 
 returns : tie.Need-returns
 returns c =
-    λ before k m e. child-link _ _ (sym (ap byteParsed (c .before .before .before .before .before .before .before .before .before .before .b .given .1)) ∙ c .before .before .before .before .before .before .before .before .before .before .before .before .byte-at .ensures) before k m e
-    (sym (ap numberParsed (c .before .before .before .before .before .before .i .given .1)) ∙ c .before .before .before .before .before .before .before .before .number-at .ensures) _
-    (sym (ap byteParsed (c .before .before .n .given .1)) ∙ c .before .before .before .before .byte-at2 .ensures) (c .name-position .ensures)
+    let p1 = c .before .before .before .before in
+    let p2 = p1 .before .before in
+    let p3 = p2 .before .before in
+    let p4 = p3 .before .before in
+    let p5 = p4 .before .before in
+    λ before k m e. child-link _ _ (sym (ap byteParsed (p4 .b .given .1)) ∙ p5 .byte-at .ensures) before k m e
+    (sym (ap numberParsed (p2 .i .given .1)) ∙ p3 .number-at .ensures) _
+    (sym (ap byteParsed (c .before .before .n .given .1)) ∙ p1 .byte-at2 .ensures) (c .name-position .ensures)
 
 returns-2 : tie.Need-returns-2
 returns-2 c =
+    let p1 = c .before .before .before .before in
+    let p2 = p1 .before .before in
+    let p3 = p2 .before .before in
+    let p4 = p3 .before .before in
     λ before k m e. not-refused (sym (ap byteParsed (c .enum-told .given .1)) ∙ c .before .before .byte-at2 .ensures)
-    (naming-number (child-fields _ _ before e .0) (sym (ap byteParsed (c .before .before .before .before .before .before .before .before .b .given .1)) ∙ c .before .before .before .before .before .before .before .before .before .before .byte-at .ensures)
-    (sym (ap numberParsed (c .before .before .before .before .i .given .1)) ∙ c .before .before .before .before .before .before .number-at .ensures) .0)
+    (naming-number (child-fields _ _ before e .0) (sym (ap byteParsed (p3 .b .given .1)) ∙ p4 .byte-at .ensures)
+    (sym (ap numberParsed (p1 .i .given .1)) ∙ p2 .number-at .ensures) .0)
 
 returns-3 : tie.Need-returns-3
 returns-3 c =

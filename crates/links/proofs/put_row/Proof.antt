@@ -13,23 +13,36 @@ use Rattle.links.proofs.put_row.Tie as tie
 
 returns : tie.Need-returns
 returns c =
+    let p1 = c .before .before .before .before .before .before in
+    let p2 = p1 .before .before .before in
+    let p3 = p2 .before .before in
+    let p4 = p3 .before .before in
+    let p5 = p4 .before .before in
+    let p6 = p5 .before .before in
+    let p7 = p6 .before .before in
     λ total before i m e.
-    let r = children-after _ _ (sym (ap instanceHeadParsed (c .before .before .before .before .before .before .before .before .before .before .before .before .before .before .before .before .before .top .given .1)) ∙ c .before .before .before .before .before .before .before .before .before .before .before .before .before .before .before .before .before .before .before .instance-head-at .ensures [] (tells-none 1)) total before i m e
-    (sym (ap nextParsed (c .before .before .before .before .before .before .before .before .before .before .before .before .before .c .given .1)) ∙ c .before .before .before .before .before .before .before .before .before .before .before .before .before .before .before .captures-at .ensures)
-    (sym (ap nextParsed (c .before .before .before .before .before .before .before .before .before .d .given .1)) ∙ c .before .before .before .before .before .before .before .before .before .before .before .rules-at .ensures) in
-    row-put _ _ _ i (children-small _ _ [] _ r) (c .before .before .before .before .before .before .clear .ensures) (c .before .before .put-children .ensures (i .children) m r)
+    let r = children-after _ _ (sym (ap instanceHeadParsed (p6 .top .given .1)) ∙ p7 .instance-head-at .ensures [] (tells-none 1)) total before i m e
+    (sym (ap nextParsed (p4 .c .given .1)) ∙ p5 .captures-at .ensures)
+    (sym (ap nextParsed (p2 .d .given .1)) ∙ p3 .rules-at .ensures) in
+    row-put _ _ _ i (children-small _ _ [] _ r) (p1 .clear .ensures) (c .before .before .put-children .ensures (i .children) m r)
 
 returns-2 : tie.Need-returns-2
 returns-2 c =
+    let p1 = c .before .before .before .before in
+    let p2 = p1 .before .before in
+    let p3 = p2 .before .before in
+    let p4 = p3 .before .before in
     λ total before i m e.
-    let r = rules-after _ _ (sym (ap instanceHeadParsed (c .before .before .before .before .before .before .before .before .top .given .1)) ∙ c .before .before .before .before .before .before .before .before .before .before .instance-head-at .ensures [] (tells-none 1)) total before i m e
-    (sym (ap nextParsed (c .before .before .before .before .c .given .1)) ∙ c .before .before .before .before .before .before .captures-at .ensures) in
+    let r = rules-after _ _ (sym (ap instanceHeadParsed (p3 .top .given .1)) ∙ p4 .instance-head-at .ensures [] (tells-none 1)) total before i m e
+    (sym (ap nextParsed (p1 .c .given .1)) ∙ p2 .captures-at .ensures) in
     not-passed (r .1) (sym (ap nextParsed (c .enum-told .given .1)) ∙ c .before .before .rules-at .ensures)
 
 returns-3 : tie.Need-returns-3
 returns-3 c =
+    let p1 = c .before .before .before .before in
+    let p2 = p1 .before .before in
     λ total before i m e.
-    let r = captures-after _ _ (sym (ap instanceHeadParsed (c .before .before .before .before .top .given .1)) ∙ c .before .before .before .before .before .before .instance-head-at .ensures [] (tells-none 1)) total before i m e in
+    let r = captures-after _ _ (sym (ap instanceHeadParsed (p1 .top .given .1)) ∙ p2 .instance-head-at .ensures [] (tells-none 1)) total before i m e in
     not-passed (r .1) (sym (ap nextParsed (c .enum-told2 .given .1)) ∙ c .before .before .captures-at .ensures)
 
 returns-4 : tie.Need-returns-4

@@ -10,19 +10,30 @@ use Rattle.references.proofs.instance_faults.Tie as tie
 
 returns : tie.Need-returns
 returns c =
-    λ total before i m e. instance-children _ _ _ _ _ _ (sym (ap instanceHeadParsed (c .before .before .before .before .before .before .before .before .before .before .top .given .1)) ∙ c .before .before .before .before .before .before .before .before .before .before .before .before .instance-head-at .ensures [] (tells-none 1)) total before i m e
-    (c .before .before .before .before .before .before .before .before .capture-faults .ensures) (ap nextParsed (c .before .before .before .before .before .before .c .given .1))
-    (c .before .before .before .before .rule-faults .ensures) (ap nextParsed (c .before .before .d .given .1)) (c .child-faults .ensures)
+    let p1 = c .before .before .before .before in
+    let p2 = p1 .before .before in
+    let p3 = p2 .before .before in
+    let p4 = p3 .before .before in
+    let p5 = p4 .before .before in
+    λ total before i m e. instance-children _ _ _ _ _ _ (sym (ap instanceHeadParsed (p4 .top .given .1)) ∙ p5 .instance-head-at .ensures [] (tells-none 1)) total before i m e
+    (p3 .capture-faults .ensures) (ap nextParsed (p2 .c .given .1))
+    (p1 .rule-faults .ensures) (ap nextParsed (c .before .before .d .given .1)) (c .child-faults .ensures)
 
 returns-2 : tie.Need-returns-2
 returns-2 c =
-    λ total before i m e. instance-rules-no _ _ _ _ _ _ (sym (ap instanceHeadParsed (c .before .before .before .before .before .before .before .before .before .top .given .1)) ∙ c .before .before .before .before .before .before .before .before .before .before .before .instance-head-at .ensures [] (tells-none 1)) total before i m e
-    (c .before .before .before .before .before .before .before .capture-faults .ensures) (ap nextParsed (c .before .before .before .before .before .c .given .1))
+    let p1 = c .before .before .before .before .before in
+    let p2 = p1 .before .before in
+    let p3 = p2 .before .before in
+    let p4 = p3 .before .before in
+    λ total before i m e. instance-rules-no _ _ _ _ _ _ (sym (ap instanceHeadParsed (p3 .top .given .1)) ∙ p4 .instance-head-at .ensures [] (tells-none 1)) total before i m e
+    (p2 .capture-faults .ensures) (ap nextParsed (p1 .c .given .1))
     (c .before .before .before .rule-faults .ensures) (ap nextParsed (c .before .d2 .given .1))
 
 returns-3 : tie.Need-returns-3
 returns-3 c =
-    λ total before i m e. instance-captures-no _ _ _ _ _ _ (sym (ap instanceHeadParsed (c .before .before .before .before .before .top .given .1)) ∙ c .before .before .before .before .before .before .before .instance-head-at .ensures [] (tells-none 1)) total before i m e
+    let p1 = c .before .before .before .before .before in
+    let p2 = p1 .before .before in
+    λ total before i m e. instance-captures-no _ _ _ _ _ _ (sym (ap instanceHeadParsed (p1 .top .given .1)) ∙ p2 .instance-head-at .ensures [] (tells-none 1)) total before i m e
     (c .before .before .before .capture-faults .ensures) (ap nextParsed (c .before .c2 .given .1))
 
 returns-4 : tie.Need-returns-4

@@ -9,13 +9,28 @@ put-named-requires-2 : tie.Need-put-named-requires-2
 put-named-requires-2 c κs = (omega (arith, c .before .before .before .before .put-named .ensures .1, c .before .before .before .before .before .before .before .before .pre), omega arith)
 
 put-named-requires-3 : tie.Need-put-named-requires-3
-put-named-requires-3 c κs = (omega (arith, c .before .before .before .before .put-named2 .ensures .1, c .before .before .before .before .before .before .before .before .before .put-named .ensures .1, c .before .before .before .before .before .before .before .before .before .before .before .before .before .pre), omega arith)
+put-named-requires-3 c κs =
+    let p1 = c .before .before .before .before in
+    let p2 = p1 .before .before .before .before .before in
+    let p3 = p2 .before .before .before .before in
+    (omega (arith, p1 .put-named2 .ensures .1, p2 .put-named .ensures .1, p3 .pre), omega arith)
 
 put-named-requires-4 : tie.Need-put-named-requires-4
-put-named-requires-4 c κs = (omega (arith, c .before .before .before .before .put-named3 .ensures .1, c .before .before .before .before .before .before .before .before .before .put-named2 .ensures .1, c .before .before .before .before .before .before .before .before .before .before .before .before .before .before .put-named .ensures .1, c .before .before .before .before .before .before .before .before .before .before .before .before .before .before .before .before .before .before .pre), omega arith)
+put-named-requires-4 c κs =
+    let p1 = c .before .before .before .before in
+    let p2 = p1 .before .before .before .before .before in
+    let p3 = p2 .before .before .before .before .before in
+    let p4 = p3 .before .before .before .before in
+    (omega (arith, p1 .put-named3 .ensures .1, p2 .put-named2 .ensures .1, p3 .put-named .ensures .1, p4 .pre), omega arith)
 
 put-requires : tie.Need-put-requires
-put-requires c κs = omega (arith, c .before .before .before .before .put-named4 .ensures .1, c .before .before .before .before .before .before .before .before .before .put-named3 .ensures .1, c .before .before .before .before .before .before .before .before .before .before .before .before .before .before .put-named2 .ensures .1, c .before .before .before .before .before .before .before .before .before .before .before .before .before .before .before .before .before .before .before .put-named .ensures .1, c .before .before .before .before .before .before .before .before .before .before .before .before .before .before .before .before .before .before .before .before .before .before .before .pre)
+put-requires c κs =
+    let p1 = c .before .before .before .before in
+    let p2 = p1 .before .before .before .before .before in
+    let p3 = p2 .before .before .before .before .before in
+    let p4 = p3 .before .before .before .before .before in
+    let p5 = p4 .before .before .before .before in
+    omega (arith, p1 .put-named4 .ensures .1, p2 .put-named3 .ensures .1, p3 .put-named2 .ensures .1, p4 .put-named .ensures .1, p5 .pre)
 
 returns : tie.Need-returns
 unfolding bitLine typeWord nodeWord instWord bitWord lineEnd

@@ -10,10 +10,15 @@ use Rattle.index.proofs.node_rows.fill_nodes.Tie as tie
 returns : tie.Need-returns
 unfolding nodesAt node
 returns c =
-    λ rs m e. c .before .before .before .before .before .before .fill-rows .ensures rs m
+    let p1 = c .before .before .before .before .before .before in
+    let p2 = p1 .before .before .before .before .before in
+    let p3 = p2 .before .before in
+    let p4 = p3 .before .before in
+    let p5 = p4 .before .before in
+    λ rs m e. p1 .fill-rows .ensures rs m
     (section-rows _ _ _ _ _ e
-    (sym (ap nextParsed (c .before .before .before .before .before .before .before .before .before .before .before .before .before .before .before .k .given .1)) ∙ c .before .before .before .before .before .before .before .before .before .before .before .before .before .before .before .before .before .keyword-at .ensures)
-    (sym (ap numberParsed (c .before .before .before .before .before .before .before .before .before .before .before .c .given .1)) ∙ c .before .before .before .before .before .before .before .before .before .before .before .before .before .number-count-at .ensures))
+    (sym (ap nextParsed (p4 .k .given .1)) ∙ p5 .keyword-at .ensures)
+    (sym (ap numberParsed (p2 .c .given .1)) ∙ p3 .number-count-at .ensures))
 
 returns-2 : tie.Need-returns-2
 unfolding nodesAt node

@@ -51,10 +51,16 @@ add-k c = let h = c .before .before .before .before .before .before .before .bef
 
 loop-again : tie.Need-loop-again Inv-loop μ-loop
 loop-again c =
-    let l = c .before .before .before .before .before .before .before .before .before .before .before .before .before .before .loop in (
-      record { keys = c .before .before .before .before .before .before .keys .given ∙ l .inv .0 .keys; kinds = c .before .before .before .before .kinds .given ∙ l .inv .0 .kinds; places = c .before .before .places .given ∙ l .inv .0 .places },
-      filling-next _ _ _ (l .inv .1) (c .before .before .before .before .before .before .before .before .before .before .before .before .before .loop-test .taken)
-          (node-filled _ _ _ _ (c .before .before .before .before .before .before .before .before .before .before .before .head-at .ensures) (c .before .before .before .before .before .before .before .fill-instances .ensures)),
+    let p1 = c .before .before .before .before in
+    let p2 = p1 .before .before in
+    let p3 = p2 .before in
+    let p4 = p3 .before .before .before .before in
+    let p5 = p4 .before .before in
+    let p6 = p5 .before in
+    let l = p6 .loop in (
+      record { keys = p2 .keys .given ∙ l .inv .0 .keys; kinds = p1 .kinds .given ∙ l .inv .0 .kinds; places = c .before .before .places .given ∙ l .inv .0 .places },
+      filling-next _ _ _ (l .inv .1) (p5 .loop-test .taken)
+          (node-filled _ _ _ _ (p4 .head-at .ensures) (p3 .fill-instances .ensures)),
     )
 
 same-length-4 : tie.Need-same-length-4 Inv-loop μ-loop

@@ -31,12 +31,17 @@ add-j c = let l = c .before .before .before .before .before .before .before .bef
 
 loop-again : tie.Need-loop-again Inv-loop μ-loop
 loop-again c =
-    let l = c .before .before .before .before .before .before .before .before .before .before .before .before .before .loop in
-    let e = c .before .before .before .before .before .before .put-row .ensures in (
+    let p1 = c .before .before .before .before .before .before in
+    let p2 = p1 .before in
+    let p3 = p2 .before .before .before .before in
+    let p4 = p3 .before in
+    let p5 = p4 .before in
+    let l = p5 .loop in
+    let e = p1 .put-row .ensures in (
       omega (arith, l .inv .0),
       sized-put _ _ _ _ (l .inv .1) e,
-      λ total. filling-next _ _ _ (l .inv .2 total) (c .before .before .before .before .before .before .before .before .before .before .before .before .loop-test .taken)
-          (λ before a m g q. instance-put _ _ _ _ (a .number) (a .place) (c .before .before .before .before .before .before .before .before .before .before .before .instance-at .ensures total before a m q) (c .before .before .before .before .before .before .before .key .ensures) e),
+      λ total. filling-next _ _ _ (l .inv .2 total) (p4 .loop-test .taken)
+          (λ before a m g q. instance-put _ _ _ _ (a .number) (a .place) (p3 .instance-at .ensures total before a m q) (p2 .key .ensures) e),
     )
 
 same-length : tie.Need-same-length Inv-loop μ-loop

@@ -23,51 +23,75 @@ slice-aggregate-run c =
 
 returns : tie.Need-returns
 returns c =
+    let p1 = c .before .before .before .before .before in
+    let p2 = p1 .before .before .before .before in
+    let p3 = p2 .before .before .before in
+    let p4 = p3 .before .before .before .before .before .before .before .before in
     λ ready.
-    settled-unread _ (λ i. c .before .before .before .before .before .before .before .before .before .before .before .before .before .before .before .before .before .before .before .before .shared-slice-known .given i .fits) _ _ _ _ _ _ _ _ _ ready (c .before .before .before .before .before .before .before .before .before .before .before .before .size .ensures)
-    (c .before .before .before .before .before .before .before .before .before .fill-active .ensures .0)
-    (c .before .before .before .before .before .before .before .before .before .fill-active .ensures .1)
-    (c .before .before .before .before .before .run .ensures .0)
+    settled-unread _ (λ i. p4 .shared-slice-known .given i .fits) _ _ _ _ _ _ _ _ _ ready (p3 .size .ensures)
+    (p2 .fill-active .ensures .0)
+    (p2 .fill-active .ensures .1)
+    (p1 .run .ensures .0)
     (c .before .first-unread .ensures)
     (c .if1 .taken)
 
 array-share-prefix-active-2 : tie.Need-array-share-prefix-active-2
 unfolding tableSize
-array-share-prefix-active-2 c = omega (arith, c .before .before .before .before .before .before .before .before .before .before .active2 .given, c .before .before .before .before .before .before .before .before .before .before .before .before .before .before .size .ensures)
+array-share-prefix-active-2 c =
+    let p1 = c .before .before .before .before .before .before .before .before .before .before in
+    let p2 = p1 .before .before .before .before in
+    omega (arith, p1 .active2 .given, p2 .size .ensures)
 
 slice-aggregate-write-list-2 : tie.Need-slice-aggregate-write-list-2
 unfolding tableSize
 slice-aggregate-write-list-2 c =
-    let t = c .before .before .before .before .before .before .before .before .before .before .before .before .fill-active .last .1 .1 .1 .1 .1 .0 in
-    let n = c .before .before .before .before .before .before .before .before .before .before .before .before .before .before .before .size .result in
-    let h : n ≤ length t = omega (arith, c .before .before .before .before .before .before .before .before .before .before .before .active2 .given, c .before .before .before .before .before .before .before .before .before .before .before .before .before .before .before .size .ensures) in
+    let p1 = c .before .before .before .before .before .before .before .before .before .before .before in
+    let p2 = p1 .before in
+    let p3 = p2 .before .before .before in
+    let t = p2 .fill-active .last .1 .1 .1 .1 .1 .0 in
+    let n = p3 .size .result in
+    let h : n ≤ length t = omega (arith, p1 .active2 .given, p3 .size .ensures) in
     sym (length-take-le n t h)
 
 returns-2 : tie.Need-returns-2
 returns-2 c =
+    let p1 = c .before .before .before .before .before in
+    let p2 = p1 .before .before .before .before in
+    let p3 = p2 .before in
+    let p4 = p3 .before .before .before .before in
+    let p5 = p4 .before .before .before .before in
+    let p6 = p5 .before .before .before in
+    let p7 = p6 .before .before .before .before .before .before .before .before in
     λ ready.
-    settled-written _ (λ i. c .before .before .before .before .before .before .before .before .before .before .before .before .before .before .before .before .before .before .before .before .before .before .before .before .before .before .before .before .before .shared-slice-known .given i .fits) _ _ _ _ _ _ _ _ _ ready (c .before .before .before .before .before .before .before .before .before .before .before .before .before .before .before .before .before .before .before .before .before .size .ensures)
-    (c .before .before .before .before .before .before .before .before .before .before .before .before .before .before .before .before .before .before .fill-active .ensures .0)
-    (c .before .before .before .before .before .before .before .before .before .before .before .before .before .before .before .before .before .before .fill-active .ensures .1)
-    (c .before .before .before .before .before .before .before .before .before .before .before .before .before .before .run .ensures .0)
-    (c .before .before .before .before .before .before .before .before .before .before .first-unread .ensures)
-    (c .before .before .before .before .before .before .before .before .before .if1 .left)
-    (c .before .before .before .before .before .write-list .ensures .0)
+    settled-written _ (λ i. p7 .shared-slice-known .given i .fits) _ _ _ _ _ _ _ _ _ ready (p6 .size .ensures)
+    (p5 .fill-active .ensures .0)
+    (p5 .fill-active .ensures .1)
+    (p4 .run .ensures .0)
+    (p3 .first-unread .ensures)
+    (p2 .if1 .left)
+    (p1 .write-list .ensures .0)
     (c .before .l .given .1)
-    (c .before .before .before .before .before .write-list .ensures .1)
+    (p1 .write-list .ensures .1)
 
 returns-3 : tie.Need-returns-3
 returns-3 c =
+    let p1 = c .before .before .before .before .before in
+    let p2 = p1 .before .before .before .before in
+    let p3 = p2 .before in
+    let p4 = p3 .before .before .before .before in
+    let p5 = p4 .before .before .before .before in
+    let p6 = p5 .before .before .before in
+    let p7 = p6 .before .before .before .before .before .before .before .before in
     λ ready.
-    settled-room _ (λ i. c .before .before .before .before .before .before .before .before .before .before .before .before .before .before .before .before .before .before .before .before .before .before .before .before .before .before .before .before .before .shared-slice-known .given i .fits) _ _ _ _ _ _ _ _ _ ready (c .before .before .before .before .before .before .before .before .before .before .before .before .before .before .before .before .before .before .before .before .before .size .ensures)
-    (c .before .before .before .before .before .before .before .before .before .before .before .before .before .before .before .before .before .before .fill-active .ensures .0)
-    (c .before .before .before .before .before .before .before .before .before .before .before .before .before .before .before .before .before .before .fill-active .ensures .1)
-    (c .before .before .before .before .before .before .before .before .before .before .before .before .before .before .run .ensures .0)
-    (c .before .before .before .before .before .before .before .before .before .before .first-unread .ensures)
-    (c .before .before .before .before .before .before .before .before .before .if1 .left)
-    (c .before .before .before .before .before .write-list .ensures .0)
+    settled-room _ (λ i. p7 .shared-slice-known .given i .fits) _ _ _ _ _ _ _ _ _ ready (p6 .size .ensures)
+    (p5 .fill-active .ensures .0)
+    (p5 .fill-active .ensures .1)
+    (p4 .run .ensures .0)
+    (p3 .first-unread .ensures)
+    (p2 .if1 .left)
+    (p1 .write-list .ensures .0)
     (c .before .l2 .given .1)
-    (c .before .before .before .before .before .write-list .ensures .1)
+    (p1 .write-list .ensures .1)
 
 pub settle-spec : {M : Type 1} → statement M
 settle-spec =

@@ -10,21 +10,30 @@ use Rattle.reader.proofs.prepare.prepare.Tie as tie
 
 fill-laid-requires : tie.Need-fill-laid-requires
 fill-laid-requires c κs =
-    let e = c .before .before .before .before .before .before .before .before .e .given .1 in
-    within-limits _ (λ i. c .before .before .before .before .before .before .before .before .before .before .before .before .before .before .before .before .shared-slice-known .given i .fits) (sym (ap layoutParsed e) ∙ c .before .before .before .before .before .before .before .before .before .before .examine .ensures .1 _ e)
+    let p1 = c .before .before .before .before .before .before .before .before in
+    let p2 = p1 .before .before in
+    let p3 = p2 .before .before .before .before .before .before in
+    let e = p1 .e .given .1 in
+    within-limits _ (λ i. p3 .shared-slice-known .given i .fits) (sym (ap layoutParsed e) ∙ p2 .examine .ensures .1 _ e)
 
 returns : tie.Need-returns
 returns c =
-    let e = c .before .before .before .before .before .before .before .before .before .before .before .before .before .before .before .before .before .before .before .before .e .given .1 in
-    let x = c .before .before .before .before .before .before .before .before .before .before .before .before .before .before .before .before .before .before .before .before .before .before .examine .ensures in
+    let p1 = c .before .before .before .before .before .before .before .before .before .before .before in
+    let p2 = p1 .before .before .before .before .before .before in
+    let p3 = p2 .before in
+    let p4 = p3 .before .before in
+    let p5 = p4 .before .before in
+    let p6 = p5 .before .before .before .before .before .before in
+    let e = p4 .e .given .1 in
+    let x = p5 .examine .ensures in
     let a = accepted _ (ap layoutParsed e) (x .0) in
     let y = sym (ap layoutParsed e) ∙ x .1 _ e in
     let f = verdict-out _ (a .1) .read in
-    let d = laid _ (λ i. c .before .before .before .before .before .before .before .before .before .before .before .before .before .before .before .before .before .before .before .before .before .before .before .before .before .before .before .before .shared-slice-known .given i .fits) (a .0) y f in
-    prepared-filled _ _ _ (a .1) (d .registerCount) (d .nodeCount) (c .before .before .before .before .before .before .before .before .before .before .before .before .before .before .before .before .before .before .has-room .ensures)
-    (verdict-meets _ (λ i. c .before .before .before .before .before .before .before .before .before .before .before .before .before .before .before .before .before .before .before .before .before .before .before .before .before .before .before .before .shared-slice-known .given i .fits) (a .1))
-    (c .before .before .before .before .before .before .before .before .before .before .before .before .before .before .before .before .before .if1 .taken)
-    (c .before .before .before .before .before .before .before .before .before .before .before .fill-laid .ensures (a .0) y f)
+    let d = laid _ (λ i. p6 .shared-slice-known .given i .fits) (a .0) y f in
+    prepared-filled _ _ _ (a .1) (d .registerCount) (d .nodeCount) (p3 .has-room .ensures)
+    (verdict-meets _ (λ i. p6 .shared-slice-known .given i .fits) (a .1))
+    (p2 .if1 .taken)
+    (p1 .fill-laid .ensures (a .0) y f)
     (c .summary .ensures ∙ check-accepted _ (ap layoutParsed e) (x .0))
 
 returns-2 : tie.Need-returns-2

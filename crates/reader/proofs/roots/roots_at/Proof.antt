@@ -10,15 +10,23 @@ use Rattle.reader.proofs.roots.roots_at.Tie as tie
 returns : tie.Need-returns
 unfolding rootsAt root
 returns c =
-    next-then′ _ _ _ (c .before .before .before .before .before .before .before .before .before .before .before .keyword-at .ensures) (c .before .before .before .before .before .before .before .before .before .k .given .1)
-    (byte-then′ _ _ _ (c .before .before .before .before .before .before .before .byte-count-at .ensures) (c .before .before .before .before .before .c .given .1)
+    let p1 = c .before .before .before .before .before in
+    let p2 = p1 .before .before in
+    let p3 = p2 .before .before in
+    let p4 = p3 .before .before in
+    next-then′ _ _ _ (p4 .keyword-at .ensures) (p3 .k .given .1)
+    (byte-then′ _ _ _ (p2 .byte-count-at .ensures) (p1 .c .given .1)
     (roots-counted _ _ _ (c .before .before .before .root-rows-at .ensures) (c .before .rows .given .1) refl))
 
 returns-2 : tie.Need-returns-2
 unfolding rootsAt root
 returns-2 c =
-    next-then′ _ _ _ (c .before .before .before .before .before .before .before .before .before .before .before .keyword-at .ensures) (c .before .before .before .before .before .before .before .before .before .k .given .1)
-    (byte-then′ _ _ _ (c .before .before .before .before .before .before .before .byte-count-at .ensures) (c .before .before .before .before .before .c .given .1)
+    let p1 = c .before .before .before .before .before in
+    let p2 = p1 .before .before in
+    let p3 = p2 .before .before in
+    let p4 = p3 .before .before in
+    next-then′ _ _ _ (p4 .keyword-at .ensures) (p3 .k .given .1)
+    (byte-then′ _ _ _ (p2 .byte-count-at .ensures) (p1 .c .given .1)
     (forgot-makes-no _ _ (c .before .before .before .root-rows-at .ensures) (c .before .rows2 .given .1) refl))
 
 returns-3 : tie.Need-returns-3

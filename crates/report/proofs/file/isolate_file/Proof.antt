@@ -15,25 +15,37 @@ use Rattle.report.proofs.file.isolate_file.Tie as tie
 
 array-share-prefix-keys : tie.Need-array-share-prefix-keys
 array-share-prefix-keys c =
-    let z = sized _ (λ i. c .before .before .before .before .before .before .before .before .before .before .before .before .before .before .before .before .shared-slice-known .given i .fits) (checkedValues (Checked.Accepted (c .before .c .given .0 .0))) refl (sym (ap checkedValues (c .before .c .given .1)) ∙ c .before .before .before .before .before .before .before .before .prepare .ensures .0 ∙ prepared-check _ (λ i. c .before .before .before .before .before .before .before .before .before .before .before .before .before .before .before .before .shared-slice-known .given i .fits) _ (length-replicate {A = ℕ} 1024 0) (length-replicate {A = ℕ} 256 0) (length-replicate {A = ℕ} 256 0) (length-replicate {A = ℕ} 16384 0) refl) in
-    omega (arith, c .before .before .before .before .before .before .before .keys2 .given, z .registers, z .few)
+    let p1 = c .before .before .before .before .before .before .before in
+    let p2 = p1 .before in
+    let p3 = p2 .before .before .before .before .before .before .before .before in
+    let z = sized _ (λ i. p3 .shared-slice-known .given i .fits) (checkedValues (Checked.Accepted (c .before .c .given .0 .0))) refl (sym (ap checkedValues (c .before .c .given .1)) ∙ p2 .prepare .ensures .0 ∙ prepared-check _ (λ i. p3 .shared-slice-known .given i .fits) _ (length-replicate {A = ℕ} 1024 0) (length-replicate {A = ℕ} 256 0) (length-replicate {A = ℕ} 256 0) (length-replicate {A = ℕ} 16384 0) refl) in
+    omega (arith, p1 .keys2 .given, z .registers, z .few)
 
 slice-aggregate-isolate-named : tie.Need-slice-aggregate-isolate-named
 slice-aggregate-isolate-named c =
-    let z = sized _ (λ i. c .before .before .before .before .before .before .before .before .before .before .before .before .before .before .before .before .before .shared-slice-known .given i .fits) (checkedValues (Checked.Accepted (c .before .before .c .given .0 .0))) refl (sym (ap checkedValues (c .before .before .c .given .1)) ∙ c .before .before .before .before .before .before .before .before .before .prepare .ensures .0 ∙ prepared-check _ (λ i. c .before .before .before .before .before .before .before .before .before .before .before .before .before .before .before .before .before .shared-slice-known .given i .fits) _ (length-replicate {A = ℕ} 1024 0) (length-replicate {A = ℕ} 256 0) (length-replicate {A = ℕ} 256 0) (length-replicate {A = ℕ} 16384 0) refl) in
-    let t = c .before .before .before .before .before .before .before .before .before .prepare .last .1 .1 .0 in
+    let p1 = c .before .before .before .before .before .before .before .before in
+    let p2 = p1 .before in
+    let p3 = p2 .before .before .before .before .before .before .before .before in
+    let z = sized _ (λ i. p3 .shared-slice-known .given i .fits) (checkedValues (Checked.Accepted (c .before .before .c .given .0 .0))) refl (sym (ap checkedValues (c .before .before .c .given .1)) ∙ p2 .prepare .ensures .0 ∙ prepared-check _ (λ i. p3 .shared-slice-known .given i .fits) _ (length-replicate {A = ℕ} 1024 0) (length-replicate {A = ℕ} 256 0) (length-replicate {A = ℕ} 256 0) (length-replicate {A = ℕ} 16384 0) refl) in
+    let t = p2 .prepare .last .1 .1 .0 in
     let n = c .before .before .c .given .0 .0 .«register_instances» in
-    let h : n ≤ length t = omega (arith, c .before .before .before .before .before .before .before .before .keys2 .given, z .registers, z .few) in
+    let h : n ≤ length t = omega (arith, p1 .keys2 .given, z .registers, z .few) in
     sym (length-take-le n t h)
 
 returns : tie.Need-returns
 returns c =
-    let z = sized _ (λ i. c .before .before .before .before .before .before .before .before .before .before .before .before .before .before .before .before .before .before .before .before .before .shared-slice-known .given i .fits) (checkedValues (Checked.Accepted (c .before .before .before .before .before .before .c .given .0 .0))) refl (sym (ap checkedValues (c .before .before .before .before .before .before .c .given .1)) ∙ c .before .before .before .before .before .before .before .before .before .before .before .before .before .prepare .ensures .0 ∙ prepared-check _ (λ i. c .before .before .before .before .before .before .before .before .before .before .before .before .before .before .before .before .before .before .before .before .before .shared-slice-known .given i .fits) _ (length-replicate {A = ℕ} 1024 0) (length-replicate {A = ℕ} 256 0) (length-replicate {A = ℕ} 256 0) (length-replicate {A = ℕ} 16384 0) refl) in
-    let y = tabled _ (λ i. c .before .before .before .before .before .before .before .before .before .before .before .before .before .before .before .before .before .before .before .before .before .shared-slice-known .given i .fits) _ (length-replicate {A = ℕ} 1024 0) (length-replicate {A = ℕ} 256 0) (length-replicate {A = ℕ} 256 0) (length-replicate {A = ℕ} 16384 0) refl _ z (c .before .before .before .before .before .before .before .before .before .before .before .before .before .prepare .ensures .1) in
+    let p1 = c .before .before .before .before .before .before in
+    let p2 = p1 .before .before .before .before .before .before .before in
+    let p3 = p2 .before .before .before .before .before .before .before .before in
+    let z = sized _ (λ i. p3 .shared-slice-known .given i .fits) (checkedValues (Checked.Accepted (p1 .c .given .0 .0))) refl (sym (ap checkedValues (p1 .c .given .1)) ∙ p2 .prepare .ensures .0 ∙ prepared-check _ (λ i. p3 .shared-slice-known .given i .fits) _ (length-replicate {A = ℕ} 1024 0) (length-replicate {A = ℕ} 256 0) (length-replicate {A = ℕ} 256 0) (length-replicate {A = ℕ} 16384 0) refl) in
+    let y = tabled _ (λ i. p3 .shared-slice-known .given i .fits) _ (length-replicate {A = ℕ} 1024 0) (length-replicate {A = ℕ} 256 0) (length-replicate {A = ℕ} 256 0) (length-replicate {A = ℕ} 16384 0) refl _ z (p2 .prepare .ensures .1) in
     c .before .before .isolate-named .ensures (y .0 .chip) (y .0 .end) (y .0 .accepted) (y .0 .keys-are)
 
 returns-2 : tie.Need-returns-2
-returns-2 c = answer-file _ _ _ _ (kind-some (c .before .c2 .given .0 .0 .kind)) (sym (ap checkedValues (c .before .c2 .given .1)) ∙ c .before .before .before .before .before .before .before .before .prepare .ensures .0 ∙ prepared-check _ (λ i. c .before .before .before .before .before .before .before .before .before .before .before .before .before .before .before .before .shared-slice-known .given i .fits) _ (length-replicate {A = ℕ} 1024 0) (length-replicate {A = ℕ} 256 0) (length-replicate {A = ℕ} 256 0) (length-replicate {A = ℕ} 16384 0) refl)
+returns-2 c =
+    let p1 = c .before .before .before .before .before .before .before .before in
+    let p2 = p1 .before .before .before .before .before .before .before .before in
+    answer-file _ _ _ _ (kind-some (c .before .c2 .given .0 .0 .kind)) (sym (ap checkedValues (c .before .c2 .given .1)) ∙ p1 .prepare .ensures .0 ∙ prepared-check _ (λ i. p2 .shared-slice-known .given i .fits) _ (length-replicate {A = ℕ} 1024 0) (length-replicate {A = ℕ} 256 0) (length-replicate {A = ℕ} 256 0) (length-replicate {A = ℕ} 16384 0) refl)
 
 pub isolate-file-spec : {M : Type 1} → statement M
 isolate-file-spec =
