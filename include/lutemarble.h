@@ -16,9 +16,9 @@
  *           that it writes.
  * Memory    No call allocates, opens, prints, waits, sets errno or raises a signal. All its working memory is on the
  *           stack of the caller's thread: see LUTEMARBLE_..._STACK below.
- * Answer    `out` gets numbers, the first being the refusal number (0: not refused) and the second its place. An `out`
+ * Answer    Of the three calls with an `out`: it gets numbers, the first being the refusal number (0: not refused) and the second its place. An `out`
  *           with fewer places than the call's number of them keeps what it has; one with more keeps the rest. The refusal
- *           number is also returned, so that a caller who lends no `out` learns it. It is one of 1 to 19: the library's
+ *           number is also returned, so that a caller who lends no `out` learns it. It is 0 or one of 1 to 19: the library's
  *           own number 43, for its tables, is never answered here.
  *
  * Stack     A thread whose stack is too small dies (SIGSEGV) at the guard page below it, and where it has none, what lies

@@ -1,4 +1,5 @@
-// The calls of the library for C and Rust. Each takes any input and returns the number of its refusal, 0 where there is none. An answer of numbers goes to a lent list too, in the order of the refusal table's values; a list that is too short for it keeps what it has.
+// The calls of the library for C and Rust. Each takes any input. The checker, the address query and isolation return the number of their refusal, 0 where there is none,
+// and put their whole answer to a lent list of numbers; a list that is too short for it keeps what it has.
 use format::Address;
 use format::Checked;
 use format::number;
@@ -7,6 +8,7 @@ use isolation::isolate;
 use reader::address::address;
 use reader::check;
 use report::report;
+ghost use Prim.Native.Nat.{_≤_};
 ghost use mathlib.Core.List.{[], _∷_};
 ghost use mathlib.Core.Path.{_≡_};
 ghost use Rattle.format.specs.Verdict.{check, address};
@@ -136,7 +138,8 @@ pub extern "C" fn lutemarble_report(
     readings: &[u8],
     text: &mut [u8],
 ) -> usize
-    ensures { λ r. ⌜ Put (now (text .entry)) 0 (report (now (file .entry)) attention (now (readings .entry))) (now (text .exit)) r ⌝ }
+    ensures bounded { λ r. ⌜ r ≤ 152000 ⌝ }
+    ensures text { λ r. ⌜ Put (now (text .entry)) 0 (report (now (file .entry)) attention (now (readings .entry))) (now (text .exit)) r ⌝ }
 {
     report(file, attention, readings, text)
 }

@@ -58,9 +58,10 @@ module _ (file : List ℕ) (attention : ℕ) (words read list : List ℕ) where
     list-after (Isolated.Done i) = refl
     list-after (Isolated.Refused x) = refl
 
-    pub refuses : Refuses list r after
+    pub refuses : Refuses file attention words read list r after
     refuses =
         record {
+          told = promised;
           ends = done-or-refused r (subst (λ o. (o .number ≡ 0) ⊎ RefusedCall list o) (sym promised) (demand1 .ends));
           sized = ap length (sym (list-after r)) ∙ ap (λ o. length (o .list)) promised ∙ demand1 .sized;
         }

@@ -1,4 +1,4 @@
--- Demand 1 of the minutes, as far as it speaks of isolation's answer.
+-- Demand 1 of the minutes, as far as it speaks of isolation's answer: over the definition of isolation, and over the answers of the code.
 use Prim.Native.Nat.{ℕ, _≤_}
 use mathlib.Core.List.{List}
 use mathlib.Core.Logic.{_⊎_}
@@ -22,7 +22,8 @@ pub record Demand1 (file : List ℕ) (attention : ℕ) (words read list : List �
   pub ends : (isolate file attention words read list .number ≡ 0) ⊎ RefusedCall list (isolate file attention words read list)
   pub sized : length (isolate file attention words read list .list) ≡ length list
 
--- The same of an answer of `isolation::isolate` and the list after the call.
-pub record Refuses (list : List ℕ) (r : Isolated) (after : List ℕ) : Type 0 where
+-- The same of an answer of `isolation::isolate` and the list after the call; and its number and place are those of the table, in the order of the table.
+pub record Refuses (file : List ℕ) (attention : ℕ) (words read list : List ℕ) (r : Isolated) (after : List ℕ) : Type 0 where
+  pub told : outcomeOf r after ≡ isolate file attention words read list
   pub ends : ((i : Isolation) × (r ≡ Isolated.Done i)) ⊎ RefusedCall list (outcomeOf r after)
   pub sized : length after ≡ length list

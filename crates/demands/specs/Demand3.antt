@@ -1,4 +1,4 @@
--- Demand 3 of the minutes, over the definition of isolation, in the words of document 01 ("The words of demand 3").
+-- Demand 3 of the minutes, over the definition of isolation and over the answers of the code, in the words of document 01 ("The words of demand 3").
 use Prim.Native.Nat.{ℕ, _*_, _≤_, _<_}
 use mathlib.Core.List.{List, _++_, [], _∷_}
 use mathlib.Core.Logic.{_⊎_, _↔_}

@@ -14,7 +14,7 @@ pub fn check(file: &[u8]) -> Checked
 
 // Isolation keeps to demand 1 and to demand 3.
 pub fn isolate(file: &[u8], attention: u8, words: &[u64], read: &[u8], list: &mut [u8]) -> Isolated
-    ensures demand1 { λ r. ⌜ Refuses (now (list .entry)) r (now (list .exit)) ⌝ }
+    ensures demand1 { λ r. ⌜ Refuses (now (file .entry)) attention (now (words .entry)) (now (read .entry)) (now (list .entry)) r (now (list .exit)) ⌝ }
     ensures demand3 { λ r. ⌜ Isolates (now (file .entry)) attention (now (words .entry)) (now (read .entry)) (now (list .entry)) r (now (list .exit)) ⌝ }
 {
     isolation::isolate(file, attention, words, read, list)

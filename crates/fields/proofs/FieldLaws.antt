@@ -25,21 +25,21 @@ module _ (s : List ℕ) (at w : ℕ) where
   unfolding fieldAt require
   there e = let h = read-means s at w e in rw (h .there, h .is, h .after)
 
-  absent : notWhole ≡ numberAt s at w → refused 2 at ≡ fieldAt s at w
+  absent : notWhole at ≡ numberAt s at w → refused 2 at ≡ fieldAt s at w
   unfolding fieldAt require
   absent e = rw (present-no s at w (cut-means s at w e))
 
-  pub number-there : {x : NumberRead} {v n : ℕ} → numberValues x ≡ numberAt s at w → x ≡ NumberRead.Number v n → done v n ≡ fieldAt s at w
-  number-there e g = there (sym (ap numberValues g) ∙ e)
+  pub number-there : {x : NumberRead} {v n : ℕ} → numberValues at x ≡ numberAt s at w → x ≡ NumberRead.Number v n → done v n ≡ fieldAt s at w
+  number-there e g = there (sym (ap (numberValues at) g) ∙ e)
 
-  pub number-absent : {x : NumberRead} → numberValues x ≡ numberAt s at w → x ≡ NumberRead.Cut → refused 2 at ≡ fieldAt s at w
-  number-absent e g = absent (sym (ap numberValues g) ∙ e)
+  pub number-absent : {x : NumberRead} → numberValues at x ≡ numberAt s at w → x ≡ NumberRead.Cut → refused 2 at ≡ fieldAt s at w
+  number-absent e g = absent (sym (ap (numberValues at) g) ∙ e)
 
-  pub byte-there : {x : ByteRead} {v n : ℕ} → byteValues x ≡ numberAt s at w → x ≡ ByteRead.Byte v n → done v n ≡ fieldAt s at w
-  byte-there e g = there (sym (ap byteValues g) ∙ e)
+  pub byte-there : {x : ByteRead} {v n : ℕ} → byteValues at x ≡ numberAt s at w → x ≡ ByteRead.Byte v n → done v n ≡ fieldAt s at w
+  byte-there e g = there (sym (ap (byteValues at) g) ∙ e)
 
-  pub byte-absent : {x : ByteRead} → byteValues x ≡ numberAt s at w → x ≡ ByteRead.Cut → refused 2 at ≡ fieldAt s at w
-  byte-absent e g = absent (sym (ap byteValues g) ∙ e)
+  pub byte-absent : {x : ByteRead} → byteValues at x ≡ numberAt s at w → x ≡ ByteRead.Cut → refused 2 at ≡ fieldAt s at w
+  byte-absent e g = absent (sym (ap (byteValues at) g) ∙ e)
 
 pub ruleset field-laws = (byte-there, byte-absent, number-there, number-absent)
 

@@ -32,7 +32,7 @@ use Rattle.isolation.specs.Outcome as outcome
 use Rattle.isolation.specs.Outcome.{refusedOutcome, doneOutcome, reachedUnread, allRead, fromRoot, isolateIn, isolate}
 use Rattle.isolation.specs.Readings.{readingsFit}
 use Rattle.listing.specs.Records.{recordSize, listing, recordsOf}
-use Rattle.listing.specs.Rows.{keyId, keyNumber, writtenWith, refusedWith, listingValues, hasRoom, roomFor, tableLinks, tableRecords, listAfter}
+use Rattle.listing.specs.Rows.{keyId, keyNumber, writtenWith, noRoomWith, listingValues, hasRoom, listingFor, tableLinks, tableRecords, listAfter}
 use Rattle.isolation.specs.Activity.{activeWord, unreadPlace, firstUnread, fitting}
 use Rattle.format.proofs.FindingLaws.{first-out, root-inside}
 use Rattle.isolation.proofs.GraphsLaws.{DoneReached, finished-done, rows-listing, rows-records-listing, listing-length}
@@ -76,19 +76,19 @@ module _ (act ch : List ℕ) (root : ℕ) (marks : List ℕ) (marks-are : marks 
   marks-done h l = subst (DoneReached (tableGraph act ch) root) (sym marks-are) (finished-done (tableGraph act ch) root h l)
 
 -- What is answered of the room.
-room-yes : (k bytes : ℕ) {count : ℕ} → listingValues (Listing.Written count) ≡ roomFor k bytes → (k ≡ count) × (hasRoom k bytes ≡ true)
-unfolding roomFor
+room-yes : (k bytes : ℕ) {count : ℕ} → listingValues (Listing.Written count) ≡ listingFor k bytes → (k ≡ count) × (hasRoom k bytes ≡ true)
+unfolding listingFor
 room-yes k bytes {count} e = go (hasRoom k bytes) e
   where
-    go : (t : Bool) → writtenWith count ≡ cond t (writtenWith k) (refusedWith 19 k) → (k ≡ count) × (t ≡ true)
+    go : (t : Bool) → writtenWith count ≡ cond t (writtenWith k) (noRoomWith 19 k) → (k ≡ count) × (t ≡ true)
     go true e = (sym (ap (λ v. v .records) e), refl)
     go false e = let z : _≡_ {A = ℕ} 0 19 = ap (λ v. v .number) e in absurd (omega arith)
 
-room-no : (k bytes : ℕ) {count : ℕ} → listingValues (Listing.NoRoom count) ≡ roomFor k bytes → (k ≡ count) × (hasRoom k bytes ≡ false)
-unfolding roomFor
+room-no : (k bytes : ℕ) {count : ℕ} → listingValues (Listing.NoRoom count) ≡ listingFor k bytes → (k ≡ count) × (hasRoom k bytes ≡ false)
+unfolding listingFor
 room-no k bytes {count} e = go (hasRoom k bytes) e
   where
-    go : (t : Bool) → refusedWith 19 count ≡ cond t (writtenWith k) (refusedWith 19 k) → (k ≡ count) × (t ≡ false)
+    go : (t : Bool) → noRoomWith 19 count ≡ cond t (writtenWith k) (noRoomWith 19 k) → (k ≡ count) × (t ≡ false)
     go true e = let z : _≡_ {A = ℕ} 19 0 = ap (λ v. v .number) e in absurd (omega arith)
     go false e = (sym (ap (λ v. v .place) e), refl)
 
@@ -160,7 +160,7 @@ module _ (file : List ℕ) (attention : ℕ) (words read list : List ℕ) where
             sym (isolate-is ∙ unread-some file bytes c whole attention words read act ch rest act-is ch-is root inside marks reached unread unread-is n n-is d e list _)
 
         -- Every register is read. The code's answer about the list decides.
-        module _ (valued : firstUnread marks unread n ≡ 0) (nodes : List ℕ) (nodes-are : nodes ≡ nodeKeys c) (l : Listing) (l-is : listingValues l ≡ roomFor (length (tableLinks marks act ch)) (length list)) where
+        module _ (valued : firstUnread marks unread n ≡ 0) (nodes : List ℕ) (nodes-are : nodes ≡ nodeKeys c) (l : Listing) (l-is : listingValues l ≡ listingFor (length (tableLinks marks act ch)) (length list)) where
           written-is : isolate file attention words read list ≡ outcome.listOutcome c attention (chipGraph c attention words read) root list
           unfolding allRead
           written-is =
@@ -178,8 +178,8 @@ module _ (file : List ℕ) (attention : ℕ) (words read list : List ℕ) where
               (act-size c meets attention words read act ch rest act-is ch-is)
               ∙ ap (recordsOf c attention) (tables-listing c meets attention words read act ch rest act-is ch-is root inside)
 
-          l-room : listingValues l ≡ roomFor (length (listing (chipGraph c attention words read) root)) (length list)
-          l-room = l-is ∙ ap (λ x. roomFor (length x) (length list)) listing-is
+          l-room : listingValues l ≡ listingFor (length (listing (chipGraph c attention words read) root)) (length list)
+          l-room = l-is ∙ ap (λ x. listingFor (length x) (length list)) listing-is
 
           -- 19
           pub room-refused : {count : ℕ} → l ≡ Listing.NoRoom count → {new : List ℕ} → new ≡ listAfter attention nodes marks act ch list

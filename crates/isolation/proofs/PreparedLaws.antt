@@ -1,10 +1,10 @@
 -- The tables that the reader prepares, as isolation uses them.
-use Prim.Native.Nat.{ℕ, _/_, _≤_, _<_}
+use Prim.Native.Nat.{ℕ, _*_, _≤_, _<_}
 use mathlib.Core.Bool.{true, cond}
 use mathlib.Core.List.{List, [], _∷_, _++_}
 use mathlib.Core.Path.{_≡_, refl, sym, _∙_, ap}
 use native.Mathlib.Omega.{arith}
-use lib.ListN.{length, take, drop, getD, length-map}
+use lib.ListN.{length, take, drop, getD, replicate, length-map, length-replicate}
 use lib.Seq.{take-append-seam}
 use borrow.Author.Tests.{le-leb}
 use Rattle.numbers.specs.BigEndian.{Bytes}
@@ -12,7 +12,11 @@ use Rattle.format.specs.Finding.{ruleFor, rootFor}
 use Rattle.format.specs.Limits.{registerLimit, nodeLimit}
 use Rattle.format.specs.Lookup.{registerEntries, nodeEntries}
 use Rattle.format.specs.Parsed.{Parsed, done, refused}
-use Rattle.format.specs.Refusals.{CheckValues, refusedWith}
+use Rattle.format.specs.declared.Checked
+use Rattle.format.specs.declared.Checked.{Checked}
+use Rattle.format.specs.declared.Refusal.{Refusal}
+use Rattle.format.specs.declared.Summary.{Summary}
+use Rattle.format.specs.Refusals.{CheckValues, refusedWith, checkedValues}
 use Rattle.format.specs.Rules.{Meets}
 use Rattle.format.specs.Tree.{Chip}
 use Rattle.format.specs.Verdict.{verdict, checkOf, check}
@@ -20,10 +24,28 @@ use Rattle.format.proofs.Acceptance.{verdict-meets}
 use Rattle.format.proofs.NumberedLaws.{verdict-numbered}
 use Rattle.tables.specs.Keys.{registerKeys, nodeKeys}
 use Rattle.tables.specs.Tables.{keyOf}
-use Rattle.reader.specs.Prepared.{Lent, expressionPlace, ruleColumn, childColumn, rootPlace, filledFor, roomOf, roomFor, prepared, preparing}
+use Rattle.reader.specs.Prepared.{Lent, lentTables, expressionPlace, ruleColumn, childColumn, rootPlace, filledFor, roomOf, roomFor, prepared, preparing}
 use Rattle.isolation.specs.Outcome.{refusedOutcome, isolate}
 use Rattle.isolation.specs.Ready.{Tabled}
 use Rattle.isolation.proofs.AnswerLaws.{file-refused}
+
+-- Tables of full size, before anything is written to them.
+pub record Full (t : Lent) : Type 0 where
+  pub registers : length (t .registers) ≡ 1024
+  pub nodes : length (t .nodes) ≡ 256
+  pub rules : length (t .rules) ≡ 256
+  pub children : length (t .children) ≡ 16384
+  pub root : t .root ≡ 0 ∷ []
+
+pub full : Full (lentTables (replicate 1024 0) (replicate 256 0) (replicate 256 0) (replicate 16384 0) (0 ∷ []))
+full =
+    record {
+      registers = length-replicate {A = ℕ} 1024 0;
+      nodes = length-replicate {A = ℕ} 256 0;
+      rules = length-replicate {A = ℕ} 256 0;
+      children = length-replicate {A = ℕ} 16384 0;
+      root = refl;
+    }
 
 -- What the checker's answer says of the verdict.
 module _ (file : List ℕ) where
@@ -45,38 +67,37 @@ module _ (file : List ℕ) where
   unfolding check
   answer-refused attention words read list h e = file-refused file attention words read list (refused-by (verdict file) refl h e)
 
-  module _ (bytes : Bytes file) where
-    -- An accepted file has no more instances than the limits allow.
-    module _ (v : CheckValues) (zero : v .number ≡ 0) (e : v ≡ check file) where
-      pub record Sized : Type 0 where
-        pub chip : Chip
-        pub end : ℕ
-        pub is : verdict file ≡ done chip end
-        pub registers : v .registerInstances ≡ length (registerEntries chip)
-        pub nodes : v .nodeInstances ≡ length (nodeEntries chip)
-        pub few : length (registerEntries chip) ≤ 1024
-        pub fewer : length (nodeEntries chip) ≤ 256
+  -- An accepted file has no more instances than the limits allow.
+  pub record Sized (v : CheckValues) : Type 0 where
+    pub chip : Chip
+    pub end : ℕ
+    pub is : verdict file ≡ done chip end
+    pub registers : v .registerInstances ≡ length (registerEntries chip)
+    pub nodes : v .nodeInstances ≡ length (nodeEntries chip)
+    pub few : length (registerEntries chip) ≤ 1024
+    pub fewer : length (nodeEntries chip) ≤ 256
 
-      pub sized : Sized
-      unfolding check registerLimit nodeLimit
-      sized =
-          let a = accepted-by (verdict file) refl v zero e in
-          let m : Meets (a .0) = verdict-meets file bytes (a .2) in
-          record { chip = a .0; end = a .1; is = a .2; registers = a .3; nodes = a .4; few = m .limits .registers; fewer = m .limits .nodes }
+  module _ (bytes : Bytes file) where
+    pub sized : (v : CheckValues) → v .number ≡ 0 → v ≡ check file → Sized v
+    unfolding check registerLimit nodeLimit
+    sized v zero e =
+        let a = accepted-by (verdict file) refl v zero e in
+        let m : Meets (a .0) = verdict-meets file bytes (a .2) in
+        record { chip = a .0; end = a .1; is = a .2; registers = a .3; nodes = a .4; few = m .limits .registers; fewer = m .limits .nodes }
 
     -- Tables of full size are long enough for it, so that the answer is the checker's.
-    module _ (t : Lent) (r : length (t .registers) ≡ 1024) (n : length (t .nodes) ≡ 256) (u : length (t .rules) ≡ 256) (k : length (t .children) ≡ 16384) (o : t .root ≡ 0 ∷ []) where
+    module _ (t : Lent) (f : Full t) where
       room-is : {c : Chip} {end : ℕ} → verdict file ≡ done c end → roomFor c t ≡ true
       unfolding roomOf registerLimit nodeLimit
       room-is {c} v =
           let m : Meets c = verdict-meets file bytes v in
-          let f : length (registerEntries c) ≤ 1024 = m .limits .registers in
-          let g : length (nodeEntries c) ≤ 256 = m .limits .nodes in
-          let a : length (registerEntries c) ≤ length (t .registers) = omega arith in
-          let b : length (nodeEntries c) ≤ length (t .nodes) = omega arith in
-          let d : length (nodeEntries c) ≤ length (t .rules) = omega arith in
-          let e : length (nodeEntries c) ≤ length (t .children) / 64 = omega arith in
-          let h : 1 ≤ length (t .root) = omega (arith, ap length o) in
+          let few : length (registerEntries c) ≤ 1024 = m .limits .registers in
+          let fewer : length (nodeEntries c) ≤ 256 = m .limits .nodes in
+          let a : length (registerEntries c) ≤ length (t .registers) = omega (arith, f .registers) in
+          let b : length (nodeEntries c) ≤ length (t .nodes) = omega (arith, f .nodes) in
+          let d : length (nodeEntries c) ≤ length (t .rules) = omega (arith, f .rules) in
+          let e : length (nodeEntries c) * 64 ≤ length (t .children) = omega (arith, f .children) in
+          let h : 1 ≤ length (t .root) = omega (arith, ap length (f .root)) in
           rw (le-leb _ _ a, le-leb _ _ b, le-leb _ _ d, le-leb _ _ e, le-leb _ _ h)
 
       preparing-is : (q : Parsed Chip) → verdict file ≡ q → preparing q t ≡ checkOf q
@@ -84,11 +105,19 @@ module _ (file : List ℕ) where
       preparing-is (done c end) v = ap (λ b. cond b (checkOf (done c end)) (refusedWith 43 0)) (room-is v)
       preparing-is (refused m p) v = refl
 
-      pub prepared-check : preparing (verdict file) t ≡ check file
+      prepared-check : preparing (verdict file) t ≡ check file
       unfolding check
       prepared-check = preparing-is (verdict file) refl
 
-      module _ (attention : ℕ) {v : CheckValues} {zero : v .number ≡ 0} {e : v ≡ check file} (z : Sized v zero e) {w : Lent} (made : w ≡ prepared attention (verdict file) t) where
+      -- What the answer of the reader says.
+      module _ {x : Checked} (promised : checkedValues x ≡ preparing (verdict file) t) where
+        pub sized-by : {s : Summary} → x ≡ Checked.Accepted s → Sized (checkedValues (Checked.Accepted s))
+        sized-by e = sized _ refl (sym (ap checkedValues e) ∙ promised ∙ prepared-check)
+
+        pub refused-is : {r : Refusal} → x ≡ Checked.Refused r → checkedValues (Checked.Refused r) ≡ check file
+        refused-is e = sym (ap checkedValues e) ∙ promised ∙ prepared-check
+
+      module _ (attention : ℕ) {v : CheckValues} (z : Sized v) {w : Lent} (made : w ≡ prepared attention (verdict file) t) where
         filled : w ≡ filledFor attention (z .chip) t
         unfolding prepared
         filled = made ∙ ap (λ q. prepared attention q t) (z .is) ∙ ap (λ b. cond b (filledFor attention (z .chip) t) t) (room-is (z .is))

@@ -24,7 +24,7 @@ use Rattle.listing.specs.declared.Listing.{Listing}
 use Rattle.isolation.specs.Activity.{RulesAgain, activeWord, unreadPlace, firstUnread}
 use Rattle.isolation.specs.Outcome.{refusedOutcome, doneOutcome, isolate}
 use Rattle.isolation.specs.Ready.{Ready}
-use Rattle.listing.specs.Rows.{listingValues, roomFor, tableLinks, listAfter}
+use Rattle.listing.specs.Rows.{listingValues, listingFor, tableLinks, listAfter}
 use Rattle.isolation.proofs.AnswerLaws.{column-front, column-entry, unread-refused, room-refused, all-written}
 use Rattle.isolation.proofs.UnreadLaws.{entries-rules}
 
@@ -75,7 +75,7 @@ module _ (file : List ℕ) (bytes : Bytes file) (attention : ℕ) (words read li
           unread-refused file attention words read list chip (t .end) (t .accepted) (ready .known) (ready .first) (ready .others) (ready .rooted) (length (registerEntries chip)) refl
           bytes (ready .fits) root (ready .root-is) (take (n) active) children (t .rest) active-is (t .children-are) unread unread-is (w .marks) (ap (λ x. x .marks) walked) (n) count-is d e
 
-      module _ {p : ℕ} (d : p ≡ firstUnread (w .marks) unread (n)) (z : p ≡ 0) {l : Listing} (l-is : listingValues l ≡ roomFor (length (tableLinks (w .marks) (take (n) active) children)) (length list)) where
+      module _ {p : ℕ} (d : p ≡ firstUnread (w .marks) unread (n)) (z : p ≡ 0) {l : Listing} (l-is : listingValues l ≡ listingFor (length (tableLinks (w .marks) (take (n) active) children)) (length list)) where
         pub settled-room : {count : ℕ} → l ≡ Listing.NoRoom count → {new : List ℕ}
             → new ≡ listAfter attention nodes (w .marks) (take (n) active) children list
             → refusedOutcome 19 count new ≡ isolate file attention words read list

@@ -16,7 +16,7 @@ use Rattle.walk.specs.TableGraph.{tableSize, tableGraph}
 use Rattle.listing.specs.declared.Listing
 use Rattle.listing.specs.declared.Listing.{Listing}
 use Rattle.listing.specs.Records.{recordOf, recordSize}
-use Rattle.listing.specs.Rows.{shown, bitsTo, isDone, rowLinks, rowsTo, bitRecords, keyId, keyNumber, rowRecords, rowsRecords, Wrote, listingValues, hasRoom, roomFor, tableLinks, tableRecords, listAfter}
+use Rattle.listing.specs.Rows.{shown, bitsTo, isDone, rowLinks, rowsTo, bitRecords, keyId, keyNumber, rowRecords, rowsRecords, Wrote, listingValues, hasRoom, listingFor, tableLinks, tableRecords, listAfter}
 use Rattle.format.proofs.GatheredLaws.{gathered-append, gathered-one}
 use Rattle.listing.proofs.RowsLaws.{bits-more, row-done, rows-none, rows-more}
 
@@ -193,12 +193,12 @@ module _ (marks act ch : List ℕ) (n : ℕ) (size : n ≡ tableSize act) {c : �
   unfolding tableLinks
   links-are = rw (← size) e
 
-  pub room-yes : (bytes : ℕ) → c ≤ bytes / 8 → listingValues (Listing.Written c) ≡ roomFor (length (tableLinks marks act ch)) bytes
-  unfolding roomFor hasRoom recordSize
+  pub room-yes : (bytes : ℕ) → c ≤ bytes / 8 → listingValues (Listing.Written c) ≡ listingFor (length (tableLinks marks act ch)) bytes
+  unfolding listingFor hasRoom recordSize
   room-yes bytes h = rw (← links-are, le-leb _ _ h)
 
-  pub room-no : (bytes : ℕ) → bytes / 8 < c → listingValues (Listing.NoRoom c) ≡ roomFor (length (tableLinks marks act ch)) bytes
-  unfolding roomFor hasRoom recordSize
+  pub room-no : (bytes : ℕ) → bytes / 8 < c → listingValues (Listing.NoRoom c) ≡ listingFor (length (tableLinks marks act ch)) bytes
+  unfolding listingFor hasRoom recordSize
   room-no bytes h = rw (← links-are, lt-leb _ _ h)
 
   pub list-written : (attention : ℕ) (keys : List ℕ) {list new : List ℕ} {next : ℕ} → c ≤ length list / 8 → Wrote list new 0 next (rowsRecords attention keys (tableGraph act ch) marks n)

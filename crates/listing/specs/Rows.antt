@@ -67,20 +67,20 @@ pub record ListingValues : Type 0 where
 abbrev pub writtenWith : ℕ → ListingValues
 writtenWith count = record { number = 0; place = 0; records = count }
 
-abbrev pub refusedWith : ℕ → ℕ → ListingValues
-refusedWith n p = record { number = n; place = p; records = 0 }
+abbrev pub noRoomWith : ℕ → ℕ → ListingValues
+noRoomWith n p = record { number = n; place = p; records = 0 }
 
 abbrev pub listingValues : Listing → ListingValues
 listingValues (Listing.Written count) = writtenWith count
-listingValues (Listing.NoRoom count) = refusedWith 19 count
+listingValues (Listing.NoRoom count) = noRoomWith 19 count
 
 -- A list of so many bytes has "a whole record's place" for each of so many records.
 unfoldable pub hasRoom : ℕ → ℕ → Bool
 hasRoom count bytes = leb count (bytes / recordSize)
 
 -- What is answered of so many records: 19 is "more records than whole 8-byte places in the list", and its place is the "records needed".
-unfoldable pub roomFor : ℕ → ℕ → ListingValues
-roomFor count bytes = cond (hasRoom count bytes) (writtenWith count) (refusedWith 19 count)
+unfoldable pub listingFor : ℕ → ℕ → ListingValues
+listingFor count bytes = cond (hasRoom count bytes) (writtenWith count) (noRoomWith 19 count)
 
 -- The links of two tables' node instances that a table of marks has as done. One without a mark is not done.
 unfoldable pub tableLinks : List ℕ → List ℕ → List ℕ → List Link

@@ -5,7 +5,7 @@ ghost use Prim.Native.Nat.{_+_, _*_, _<_, _≤_};
 ghost use lib.ListN.{length, getD, take, drop};
 ghost use Rattle.graph.specs.Chains.{kept};
 ghost use Rattle.walk.specs.TableGraph.{tableSize, tableGraph};
-ghost use Rattle.listing.specs.Rows.{shown, bitsTo, isDone, rowLinks, rowsTo, bitRecords, rowRecords, rowsRecords, Wrote, listingValues, roomFor, tableLinks, listAfter};
+ghost use Rattle.listing.specs.Rows.{shown, bitsTo, isDone, rowLinks, rowsTo, bitRecords, rowRecords, rowsRecords, Wrote, listingValues, listingFor, tableLinks, listAfter};
 ghost use Rattle.listing.specs.Records.{recordOf};
 
 // How many records were written; or how many there is no room for.
@@ -225,7 +225,7 @@ pub fn write_list(
     child: &[u16],
 ) -> Listing
     ensures { λ r. ⌜ listingValues r
-        ≡ roomFor (length (tableLinks (now (marks .entry)) (now (active .entry)) (now (child .entry)))) (length (now (list .entry))) ⌝ }
+        ≡ listingFor (length (tableLinks (now (marks .entry)) (now (active .entry)) (now (child .entry)))) (length (now (list .entry))) ⌝ }
     ensures { λ r. ⌜ now (list .exit)
         ≡ listAfter attention (now (keys .entry)) (now (marks .entry)) (now (active .entry)) (now (child .entry)) (now (list .entry)) ⌝ }
 {

@@ -53,7 +53,7 @@ size-le Four = lit≤ tt
 size-le Eight = lit≤ tt
 
 -- The number at a place for each width, from one fact over the number of bytes.
-pub number-cut : (s : List ℕ) (at : ℕ) {n m : ℕ} → n ≡ m → length s < at + n → notWhole ≡ numberAt s at m
+pub number-cut : (s : List ℕ) (at : ℕ) {n m : ℕ} → n ≡ m → length s < at + n → notWhole at ≡ numberAt s at m
 unfolding numberAt
 number-cut s at {n} {m} e h = let k : length s < at + m = omega arith in simp (present-no s at m k)
 
@@ -79,14 +79,14 @@ module _ (s : List ℕ) (at n : ℕ) where
   unfolding numberAt
   read-means {v} {m} = go (present s at n) refl
     where
-      go : (b : Bool) → present s at n ≡ b → readWith v m ≡ cond b (readWith (field s at n) (at + n)) notWhole → Whole v m
+      go : (b : Bool) → present s at n ≡ b → readWith v m ≡ cond b (readWith (field s at n) (at + n)) (notWhole at) → Whole v m
       go true p e = record { there = p; is = ap (λ r. r .value) e; after = ap (λ r. r .next) e }
       go false p e = let z : _≡_ {A = ℕ} 0 2 = ap (λ r. r .number) e in absurd (omega arith)
 
-  pub cut-means : notWhole ≡ numberAt s at n → length s < at + n
+  pub cut-means : notWhole at ≡ numberAt s at n → length s < at + n
   unfolding numberAt present
   cut-means = go (leb (at + n) (length s)) refl
     where
-      go : (b : Bool) → leb (at + n) (length s) ≡ b → notWhole ≡ cond b (readWith (field s at n) (at + n)) notWhole → length s < at + n
+      go : (b : Bool) → leb (at + n) (length s) ≡ b → notWhole at ≡ cond b (readWith (field s at n) (at + n)) (notWhole at) → length s < at + n
       go true p e = let z : _≡_ {A = ℕ} 2 0 = ap (λ r. r .number) e in absurd (omega arith)
       go false p e = leb-false _ _ p

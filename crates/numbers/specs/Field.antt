@@ -27,26 +27,29 @@ present s at n = leb (at + n) (length s)
 unfoldable pub field : List ℕ → ℕ → ℕ → ℕ
 field s at n = bigEndian (take n (drop at s))
 
--- What a reader of a field answers, in the paper's numbers: number 0 with the value and the place after it, or number 2 and zero of everything else.
+-- What a reader of a field answers, in the paper's numbers: number 0 with the value and the place after it, or number 2 at the field's first byte, and zero of everything
+-- else.
 pub record FieldValues : Type 0 where
   pub number : ℕ
+  pub place : ℕ
   pub value : ℕ
   pub next : ℕ
 
 abbrev pub readWith : ℕ → ℕ → FieldValues
-readWith v n = record { number = 0; value = v; next = n }
+readWith v n = record { number = 0; place = 0; value = v; next = n }
 
-abbrev pub notWhole : FieldValues
-notWhole = record { number = 2; value = 0; next = 0 }
+abbrev pub notWhole : ℕ → FieldValues
+notWhole at = record { number = 2; place = at; value = 0; next = 0 }
 
-abbrev pub numberValues : NumberRead → FieldValues
-numberValues (NumberRead.Number v n) = readWith v n
-numberValues NumberRead.Cut = notWhole
+-- The answer about the field at a place.
+abbrev pub numberValues : ℕ → NumberRead → FieldValues
+numberValues at (NumberRead.Number v n) = readWith v n
+numberValues at NumberRead.Cut = notWhole at
 
-abbrev pub byteValues : ByteRead → FieldValues
-byteValues (ByteRead.Byte v n) = readWith v n
-byteValues ByteRead.Cut = notWhole
+abbrev pub byteValues : ℕ → ByteRead → FieldValues
+byteValues at (ByteRead.Byte v n) = readWith v n
+byteValues at ByteRead.Cut = notWhole at
 
--- The number of n bytes at a place with the place after them; 2 where they are not wholly there.
+-- The number of n bytes at a place with the place after them; 2 at that place where they are not wholly there.
 unfoldable pub numberAt : List ℕ → ℕ → ℕ → FieldValues
-numberAt s at n = cond (present s at n) (readWith (field s at n) (at + n)) notWhole
+numberAt s at n = cond (present s at n) (readWith (field s at n) (at + n)) (notWhole at)

@@ -54,7 +54,7 @@ fn big_endian(s: &[u8]) -> u64
 
 // The number at a place.
 pub fn number_at(s: &[u8], at: usize, w: Width) -> NumberRead
-    ensures { λ r. ⌜ numberValues r ≡ numberAt (now (s .entry)) at (sizeOf w) ⌝ }
+    ensures { λ r. ⌜ numberValues at r ≡ numberAt (now (s .entry)) at (sizeOf w) ⌝ }
 {
     let n = size(w);
     if s.len() < at {
@@ -69,7 +69,7 @@ pub fn number_at(s: &[u8], at: usize, w: Width) -> NumberRead
 
 // The byte at a place.
 pub fn byte_at(s: &[u8], at: usize) -> ByteRead
-    ensures { λ r. ⌜ byteValues r ≡ numberAt (now (s .entry)) at 1 ⌝ }
+    ensures { λ r. ⌜ byteValues at r ≡ numberAt (now (s .entry)) at 1 ⌝ }
 {
     if at < s.len() {
         ByteRead::Byte(s[at], at + 1)

@@ -1,5 +1,5 @@
 -- What the code writes to the lent tables is what the tree says.
-use Prim.Native.Nat.{ℕ, suc, _/_, _%_, _≤_, _<_}
+use Prim.Native.Nat.{ℕ, suc, _*_, _%_, _≤_, _<_}
 use mathlib.Core.Bool.{Bool, true, false, cond, _||_}
 use mathlib.Core.List.{List, [], _∷_, _++_, map}
 use mathlib.Core.Logic.{⊎-elim}
@@ -164,8 +164,8 @@ module _ (c : Chip) (meets : Meets c) where
       let r₂ = and-right (leb (length (nodeEntries c)) (length (t .nodes))) _ r₁ in
       let d = leb-true _ _ (and-left _ _ r₂) in
       let r₃ = and-right (leb (length (nodeEntries c)) (length (t .rules))) _ r₂ in
-      let e : length (nodeEntries c) ≤ length (t .children) / 64 = leb-true _ _ (and-left _ _ r₃) in
-      let f = leb-true _ _ (and-right (leb (length (nodeEntries c)) (length (t .children) / 64)) _ r₃) in
+      let e : length (nodeEntries c) * 64 ≤ length (t .children) = leb-true _ _ (and-left _ _ r₃) in
+      let f = leb-true _ _ (and-right (leb (length (nodeEntries c) * 64) (length (t .children))) _ r₃) in
       let p : written (t .registers) 0 (registerKeys c) ≡ registerKeys c ++ drop (length (registerKeys c)) (t .registers) =
       written-front (t .registers) (registerKeys c) (rw (length-map (registerEntries c) (λ e. keyOf (e .id) (e .instance .number))) a) in
       let q : written (t .nodes) 0 (nodeKeys c) ≡ nodeKeys c ++ drop (length (nodeKeys c)) (t .nodes) =

@@ -1,10 +1,11 @@
 -- The lent tables of a file.
-use Prim.Native.Nat.{ℕ, _/_, _≤_, _<_}
+use Prim.Native.Nat.{ℕ, _*_, _/_, _≤_, _<_}
 use mathlib.Core.Bool.{Bool, true, false, cond}
 use mathlib.Core.List.{List, map}
 use mathlib.Core.Path.{_≡_, sym, _∙_, ap}
 use lib.Dec.{leb}
 use lib.ListN.{length, set}
+use native.Mathlib.Omega.{arith}
 use borrow.Author.Tests.{le-leb, lt-leb}
 use Rattle.format.specs.FileLayout.{rootsAt, fileAt}
 use Rattle.format.specs.Lookup.{gathered, NodeEntry, nodeEntries, registerEntries}
@@ -55,11 +56,11 @@ module _ (m n registers nodes rules children root : ℕ) where
 
   pub room-children : m ≤ registers → n ≤ nodes → n ≤ rules → children / 64 < n → false ≡ roomOf m n registers nodes rules children root
   unfolding roomOf
-  room-children a b d h = rw (le-leb _ _ a, le-leb _ _ b, le-leb _ _ d, lt-leb _ _ h)
+  room-children a b d h = let k : children < n * 64 = omega arith in rw (le-leb _ _ a, le-leb _ _ b, le-leb _ _ d, lt-leb _ _ k)
 
   pub room-root : m ≤ registers → n ≤ nodes → n ≤ rules → n ≤ children / 64 → {r : Bool} → r ≡ leb 1 root → r ≡ roomOf m n registers nodes rules children root
   unfolding roomOf
-  room-root a b d h e = rw (le-leb _ _ a, le-leb _ _ b, le-leb _ _ d, le-leb _ _ h) e
+  room-root a b d h e = let k : n * 64 ≤ children = omega arith in rw (le-leb _ _ a, le-leb _ _ b, le-leb _ _ d, le-leb _ _ k) e
 
 -- The tables after the call, and the answer.
 module _ (s : List ℕ) (attention : ℕ) (t : Lent) where

@@ -1,5 +1,5 @@
 -- The tables that a caller lends for a file and a wanted attention type, and what they hold of an accepted file.
-use Prim.Native.Nat.{ℕ, _/_}
+use Prim.Native.Nat.{ℕ, _*_}
 use mathlib.Core.Bool.{Bool, cond, _&&_}
 use mathlib.Core.List.{List, [], _∷_, _++_, map}
 use mathlib.Core.Option.{Option, none, some}
@@ -22,8 +22,8 @@ pub record Lent : Type 0 where
   pub children : List ℕ
   pub root : List ℕ
 
-abbrev pub lent : List ℕ → List ℕ → List ℕ → List ℕ → List ℕ → Lent
-lent a b c d e = record { registers = a; nodes = b; rules = c; children = d; root = e }
+abbrev pub lentTables : List ℕ → List ℕ → List ℕ → List ℕ → List ℕ → Lent
+lentTables a b c d e = record { registers = a; nodes = b; rules = c; children = d; root = e }
 
 -- The place of a rule's expression; 0 where there is no rule.
 unfoldable pub expressionPlace : List Rule → ℕ
@@ -68,7 +68,7 @@ filledFor attention c t =
 
 -- Tables of these lengths are long enough for m register instances and n node instances.
 unfoldable pub roomOf : ℕ → ℕ → ℕ → ℕ → ℕ → ℕ → ℕ → Bool
-roomOf m n registers nodes rules children root = leb m registers && (leb n nodes && (leb n rules && (leb n (children / 64) && leb 1 root)))
+roomOf m n registers nodes rules children root = leb m registers && (leb n nodes && (leb n rules && (leb (n * 64) children && leb 1 root)))
 
 -- Every table is long enough for the chip.
 abbrev pub roomFor : Chip → Lent → Bool

@@ -95,7 +95,7 @@ pub fn whole(s: &[u8]) -> LayoutRead
     }
 }
 
-// The first fault of 12 to 14 of a file whose layout was read; where there is none, the place after the roots section. It reads the file once for its rows, the nodes section once to look up its names, and once for its children.
+// The first fault of 12 to 14 of a file whose layout was read; where there is none, the place after the roots section. It reads the file once for its rows, the nodes section once to look up its names and once for its children, and the captures and rules of each root's node instance once more.
 fn faults(s: &[u8], l: Layout) -> NextRead
     requires { ⌜ Bounded l ⌝ }
     ensures { λ r. ⌜ ((c : Chip)

@@ -25,7 +25,7 @@ ghost use Rattle.tables.specs.Keys.{registerKeys, nodeKeys};
 ghost use Rattle.index.specs.Columns.{nodePlaces};
 ghost use Rattle.reader.specs.Layout.{laidOut, layoutAt, Bounded};
 ghost use Rattle.reader.specs.Filled.{filledBy};
-ghost use Rattle.reader.specs.Prepared.{lent, roomOf, prepared, preparing};
+ghost use Rattle.reader.specs.Prepared.{lentTables, roomOf, prepared, preparing};
 
 // The lent tables, from the tables of a file that was read before. It reads the nodes section twice.
 fn fill_lent(
@@ -47,8 +47,8 @@ fn fill_lent(
         → now (keys .entry) ≡ registerKeys c
         → now (names .entry) ≡ nodeKeys c
         → now (places .entry) ≡ nodePlaces c
-        → lent (now (registers .exit)) (now (nodes .exit)) (now (rules .exit)) (now (children .exit)) (now (root .exit))
-        ≡ filledBy attention c (lent (now (registers .entry)) (now (nodes .entry)) (now (rules .entry)) (now (children .entry)) (now (root .entry)))) ⌝ }
+        → lentTables (now (registers .exit)) (now (nodes .exit)) (now (rules .exit)) (now (children .exit)) (now (root .exit))
+        ≡ filledBy attention c (lentTables (now (registers .entry)) (now (nodes .entry)) (now (rules .entry)) (now (children .entry)) (now (root .entry)))) ⌝ }
 {
     copy(keys, registers);
     copy(names, nodes);
@@ -73,8 +73,8 @@ fn fill_laid(
     ensures { λ r. ⌜ ((c : Chip)
         → done (laidOut l) (l .end) ≡ layoutAt (now (s .entry)) 0
         → fileAt (now (s .entry)) true 0 ≡ done c (l .end)
-        → lent (now (registers .exit)) (now (nodes .exit)) (now (rules .exit)) (now (children .exit)) (now (root .exit))
-        ≡ filledBy attention c (lent (now (registers .entry)) (now (nodes .entry)) (now (rules .entry)) (now (children .entry)) (now (root .entry)))) ⌝ }
+        → lentTables (now (registers .exit)) (now (nodes .exit)) (now (rules .exit)) (now (children .exit)) (now (root .exit))
+        ≡ filledBy attention c (lentTables (now (registers .entry)) (now (nodes .entry)) (now (rules .entry)) (now (children .entry)) (now (root .entry)))) ⌝ }
 {
     let m = l.register_instances;
     let n = l.node_instances;
@@ -141,9 +141,9 @@ pub fn prepare(
     root: &mut [u64],
 ) -> Checked
     ensures { λ r. ⌜ checkedValues r
-        ≡ preparing (verdict (now (file .entry))) (lent (now (registers .entry)) (now (nodes .entry)) (now (rules .entry)) (now (children .entry)) (now (root .entry))) ⌝ }
-    ensures { λ r. ⌜ lent (now (registers .exit)) (now (nodes .exit)) (now (rules .exit)) (now (children .exit)) (now (root .exit))
-        ≡ prepared attention (verdict (now (file .entry))) (lent (now (registers .entry)) (now (nodes .entry)) (now (rules .entry)) (now (children .entry)) (now (root .entry))) ⌝ }
+        ≡ preparing (verdict (now (file .entry))) (lentTables (now (registers .entry)) (now (nodes .entry)) (now (rules .entry)) (now (children .entry)) (now (root .entry))) ⌝ }
+    ensures { λ r. ⌜ lentTables (now (registers .exit)) (now (nodes .exit)) (now (rules .exit)) (now (children .exit)) (now (root .exit))
+        ≡ prepared attention (verdict (now (file .entry))) (lentTables (now (registers .entry)) (now (nodes .entry)) (now (rules .entry)) (now (children .entry)) (now (root .entry))) ⌝ }
 {
     let e = examine(file);
     match e {

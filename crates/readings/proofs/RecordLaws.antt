@@ -19,7 +19,7 @@ use Rattle.tables.specs.Tables.{written}
 use Rattle.tables.proofs.TablesLaws.{written-front}
 use Rattle.readings.specs.declared.Decoded
 use Rattle.readings.specs.declared.Decoded.{Decoded}
-use Rattle.readings.specs.ReadingsFile.{readByte, valueIn, recordFits, recordsFit, fileFits, eachRecord, roomFor, decodes, DecodedValues, decodedValues, decoding, lentAfter}
+use Rattle.readings.specs.ReadingsFile.{readByte, valueIn, recordFits, recordsFit, fileFits, eachRecord, placesFor, decodes, DecodedValues, decodedValues, decoding, lentAfter}
 
 -- The read byte of the record at a place.
 byte-at-place : (s : List ℕ) (at : ℕ) → at + 16 ≤ length s → getD s (at + 4) 0 ≡ readByte (drop at s)
@@ -150,21 +150,21 @@ module _ (keys bytes words read : List ℕ) where
   Decides n t = (record { number = n; place = 0 } ≡ decoding keys bytes words read) × (t ≡ decodes keys bytes words read)
 
   pub no-words : length words < length keys → Decides 43 false
-  unfolding decoding decodes roomFor
+  unfolding decoding decodes placesFor
   no-words h = (rw (lt-leb _ _ h), rw (lt-leb _ _ h))
 
   module _ (h : length keys ≤ length words) where
     pub no-read : length read < length keys → Decides 43 false
-    unfolding decoding decodes roomFor
+    unfolding decoding decodes placesFor
     no-read k = (rw (le-leb _ _ h, lt-leb _ _ k), rw (le-leb _ _ h, lt-leb _ _ k))
 
     module _ (k : length keys ≤ length read) where
       pub no-fit : fileFits keys bytes ≡ false → Decides 17 false
-      unfolding decoding decodes roomFor
+      unfolding decoding decodes placesFor
       no-fit e = (rw (le-leb _ _ h, le-leb _ _ k, e), rw (le-leb _ _ h, le-leb _ _ k, e))
 
       pub all-fit : fileFits keys bytes ≡ true → Decides 0 true
-      unfolding decoding decodes roomFor
+      unfolding decoding decodes placesFor
       all-fit e = (rw (le-leb _ _ h, le-leb _ _ k, e), rw (le-leb _ _ h, le-leb _ _ k, e))
 
   -- What the answer says.
@@ -183,11 +183,11 @@ module _ (keys bytes words read : List ℕ) where
 
   pub decoded-yes : decodedValues Decoded.Read ≡ decoding keys bytes words read → decodes keys bytes words read ≡ true
   unfolding decoding decodes
-  decoded-yes e = decided (roomFor keys words read) (fileFits keys bytes) _ e refl
+  decoded-yes e = decided (placesFor keys words read) (fileFits keys bytes) _ e refl
 
   pub decoded-no : (r : Refusal) → decodedValues (Decoded.Refused r) ≡ decoding keys bytes words read → decodes keys bytes words read ≡ false
   unfolding decoding decodes
-  decoded-no r e = undecided (roomFor keys words read) (fileFits keys bytes) _ e (kind-some (r .kind))
+  decoded-no r e = undecided (placesFor keys words read) (fileFits keys bytes) _ e (kind-some (r .kind))
 
 pub lent-kept : (xs lent : List ℕ) {t : Bool} → false ≡ t → lent ≡ lentAfter t xs lent
 unfolding lentAfter

@@ -86,12 +86,12 @@ readOf = eachRecord readByte
 -- Decoding
 
 -- Both lent lists have a place for each key.
-unfoldable pub roomFor : List ℕ → List ℕ → List ℕ → Bool
-roomFor keys words read = leb (length keys) (length words) && leb (length keys) (length read)
+unfoldable pub placesFor : List ℕ → List ℕ → List ℕ → Bool
+placesFor keys words read = leb (length keys) (length words) && leb (length keys) (length read)
 
 -- Decoding succeeds: there is room, and the file fits.
 unfoldable pub decodes : List ℕ → List ℕ → List ℕ → List ℕ → Bool
-decodes keys bytes words read = roomFor keys words read && fileFits keys bytes
+decodes keys bytes words read = placesFor keys words read && fileFits keys bytes
 
 -- The answer in the paper's numbers: number 0, or a refusal.
 pub record DecodedValues : Type 0 where
@@ -105,7 +105,7 @@ decodedValues (Decoded.Refused r) = record { number = numberOf (r .kind); place 
 -- 43 where a lent list has no place for each key, then 17 where the file does not fit.
 unfoldable pub decoding : List ℕ → List ℕ → List ℕ → List ℕ → DecodedValues
 decoding keys bytes words read =
-    cond (roomFor keys words read)
+    cond (placesFor keys words read)
     (cond (fileFits keys bytes) (record { number = 0; place = 0 }) (record { number = 17; place = 0 }))
     (record { number = 43; place = 0 })
 

@@ -20,7 +20,7 @@ use Rattle.format.specs.Verdict.{verdict, check}
 use Rattle.format.proofs.Acceptance.{verdict-meets}
 use Rattle.tables.specs.Tables.{keyOf}
 use Rattle.tables.specs.Keys.{registerKeys}
-use Rattle.readings.specs.ReadingsFile.{readByte, valueIn, fileFits, wordsOf, readOf, roomFor, decodes, lentAfter}
+use Rattle.readings.specs.ReadingsFile.{readByte, valueIn, fileFits, wordsOf, readOf, placesFor, decodes, lentAfter}
 use Rattle.readings.proofs.RecordLaws.{each-length}
 use Rattle.isolation.specs.Readings.{readingsFit}
 use Rattle.format.specs.Finding.{rootFor}
@@ -79,14 +79,14 @@ module _ (file : List ℕ) (bytes : Bytes file) {c : Chip} {end : ℕ} (v : verd
           → isolate file attention (take (length keys) words′) (take (length keys) read′) list ≡ isolateFile file attention readings list
       unfolding decodes lentAfter
       decoded-is {words′} {read′} a w u t =
-          let f : fileFits keys readings ≡ true = and-right (roomFor keys words read) _ (sym a ∙ t) in
+          let f : fileFits keys readings ≡ true = and-right (placesFor keys words read) _ (sym a ∙ t) in
           let x : take (length keys) words′ ≡ wordsOf keys readings = ap (take (length keys)) (w ∙ rw t refl) ∙ take-at (wordsOf keys readings) (drop (length (wordsOf keys readings)) words) (length keys) (each-length valueIn keys readings) in
           let y : take (length keys) read′ ≡ readOf keys readings = ap (take (length keys)) (u ∙ rw t refl) ∙ take-at (readOf keys readings) (drop (length (readOf keys readings)) read) (length keys) (each-length readByte keys readings) in
           rw (x, y, k) (fits-is (rw k at f))
 
       pub misfit-decoded : {r : Bool} → length words ≡ 1024 → length read ≡ 1024 → r ≡ decodes keys readings words read → r ≡ false
           → isolate file attention [] [] list ≡ isolateFile file attention readings list
-      unfolding decodes roomFor registerLimit
+      unfolding decodes placesFor registerLimit
       misfit-decoded {r} lw lr a t =
           let few : length keys ≤ 1024 = omega (arith, ap length k, length-map (registerEntries c) (λ e. keyOf (e .id) (e .instance .number)), meets .limits .registers) in
           misfit-is (rw k at (sym (rw (le-leb (length keys) (length words) (omega arith), le-leb (length keys) (length read) (omega arith)) at a) ∙ t))
@@ -127,5 +127,5 @@ module _ (file : List ℕ) (attention : ℕ) (readings list : List ℕ) where
 
 -- Where decoding to lists of 1,024 places answers true, there are at most as many names.
 pub decoded-few : (keys readings read : List ℕ) {r : Bool} → r ≡ decodes keys readings (replicate 1024 0) read → r ≡ true → length keys ≤ 1024
-unfolding decodes roomFor
+unfolding decodes placesFor
 decoded-few keys readings read a t = omega (arith, leb-true (length keys) (length {A = ℕ} (replicate 1024 0)) (and-left _ _ (and-left _ _ (sym a ∙ t))), length-replicate {A = ℕ} 1024 0)

@@ -37,7 +37,8 @@ stepWalk g w = record { marks = stepped g (w .marks) }
 unfoldable pub started : ℕ → List ℕ
 started root = tabulate 256 (λ i. cond (eqb i root) 1 0)
 
--- The marks where none waits any more: done is what is reached, and nothing else is touched; and the steps until then.
+-- The marks where none of the graph's node instances waits any more: done is what is reached, and nothing else is touched; and the steps until then. A root that the
+-- graph does not have keeps its mark, and no step is taken.
 unfoldable pub finished : Graph → ℕ → Walked
 finished g root =
     record {

@@ -16,7 +16,7 @@ marksAfter g root (suc n) = stepped g (marksAfter g root n)
 pub record StepCount (g : Graph) (root : ℕ) (w : Walked) : Type 0 where
   -- The marks are those after that many steps.
   pub marks : w .marks ≡ marksAfter g root (w .steps)
-  -- None waits then.
+  -- None of the graph's node instances waits then.
   pub ended : waits g (marksAfter g root (w .steps)) ≡ false
   -- After every smaller number of steps one waits.
   pub going : (n : ℕ) → n < w .steps → waits g (marksAfter g root n) ≡ true

@@ -1,14 +1,11 @@
-use Prim.Native.Nat.{ℕ, _≤_}
-use mathlib.Core.Path.{refl, sym, _∙_, ap}
+use Prim.Native.Nat.{_≤_}
+use mathlib.Core.Path.{sym}
 use native.Mathlib.Omega.{arith}
-use lib.ListN.{length, length-replicate}
+use lib.ListN.{length}
 use lib.Seq.{length-take-le}
 use borrow.Author.Needs.{needs}
-use Rattle.format.specs.declared.Checked
-use Rattle.format.specs.declared.Checked.{Checked}
-use Rattle.format.specs.Refusals.{checkedValues}
 use Rattle.format.proofs.NumberedLaws.{kind-some}
-use Rattle.isolation.proofs.PreparedLaws.{answer-refused, sized, prepared-check, tabled}
+use Rattle.isolation.proofs.PreparedLaws.{full, answer-refused, sized-by, refused-is, tabled}
 use Rattle.isolation.proofs.isolate.Statement.{statement}
 use Rattle.isolation.proofs.isolate.Tie as tie
 
@@ -17,7 +14,7 @@ array-share-prefix-keys c =
     let p1 = c .before .before .before .before .before .before .before .before in
     let p2 = p1 .before in
     let p3 = p2 .before .before .before .before .before .before .before .before .before in
-    let z = sized _ (λ i. p3 .shared-slice-known .given i .fits) (checkedValues (Checked.Accepted (c .before .before .c .given .0 .0))) refl (sym (ap checkedValues (c .before .before .c .given .1)) ∙ p2 .prepare .ensures .0 ∙ prepared-check _ (λ i. p3 .shared-slice-known .given i .fits) _ (length-replicate {A = ℕ} 1024 0) (length-replicate {A = ℕ} 256 0) (length-replicate {A = ℕ} 256 0) (length-replicate {A = ℕ} 16384 0) refl) in
+    let z = sized-by _ (λ i. p3 .shared-slice-known .given i .fits) _ full (p2 .prepare .ensures .0) (c .before .before .c .given .1) in
     omega (arith, p1 .keys2 .given, z .registers, z .few)
 
 slice-aggregate-answer : tie.Need-slice-aggregate-answer
@@ -25,7 +22,7 @@ slice-aggregate-answer c =
     let p1 = c .before .before .before .before .before .before .before .before .before in
     let p2 = p1 .before in
     let p3 = p2 .before .before .before .before .before .before .before .before .before in
-    let z = sized _ (λ i. p3 .shared-slice-known .given i .fits) (checkedValues (Checked.Accepted (c .before .before .before .c .given .0 .0))) refl (sym (ap checkedValues (c .before .before .before .c .given .1)) ∙ p2 .prepare .ensures .0 ∙ prepared-check _ (λ i. p3 .shared-slice-known .given i .fits) _ (length-replicate {A = ℕ} 1024 0) (length-replicate {A = ℕ} 256 0) (length-replicate {A = ℕ} 256 0) (length-replicate {A = ℕ} 16384 0) refl) in
+    let z = sized-by _ (λ i. p3 .shared-slice-known .given i .fits) _ full (p2 .prepare .ensures .0) (c .before .before .before .c .given .1) in
     let t = p2 .prepare .last .1 .1 .0 in
     let n = c .before .before .before .c .given .0 .0 .«register_instances» in
     let h : n ≤ length t = omega (arith, p1 .keys2 .given, z .registers, z .few) in
@@ -36,7 +33,7 @@ array-share-prefix-nodes c =
     let p1 = c .before .before .before .before .before .before .before .before in
     let p2 = p1 .before .before in
     let p3 = p2 .before .before .before .before .before .before .before .before .before in
-    let z = sized _ (λ i. p3 .shared-slice-known .given i .fits) (checkedValues (Checked.Accepted (c .before .before .before .c .given .0 .0))) refl (sym (ap checkedValues (c .before .before .before .c .given .1)) ∙ p2 .prepare .ensures .0 ∙ prepared-check _ (λ i. p3 .shared-slice-known .given i .fits) _ (length-replicate {A = ℕ} 1024 0) (length-replicate {A = ℕ} 256 0) (length-replicate {A = ℕ} 256 0) (length-replicate {A = ℕ} 16384 0) refl) in
+    let z = sized-by _ (λ i. p3 .shared-slice-known .given i .fits) _ full (p2 .prepare .ensures .0) (c .before .before .before .c .given .1) in
     omega (arith, p1 .nodes2 .given, z .nodes, z .fewer)
 
 slice-aggregate-answer-2 : tie.Need-slice-aggregate-answer-2
@@ -45,7 +42,7 @@ slice-aggregate-answer-2 c =
     let p2 = p1 .before .before .before .before .before in
     let p3 = p2 .before .before in
     let p4 = p3 .before .before .before .before .before .before .before .before .before in
-    let z = sized _ (λ i. p4 .shared-slice-known .given i .fits) (checkedValues (Checked.Accepted (p1 .c .given .0 .0))) refl (sym (ap checkedValues (p1 .c .given .1)) ∙ p3 .prepare .ensures .0 ∙ prepared-check _ (λ i. p4 .shared-slice-known .given i .fits) _ (length-replicate {A = ℕ} 1024 0) (length-replicate {A = ℕ} 256 0) (length-replicate {A = ℕ} 256 0) (length-replicate {A = ℕ} 16384 0) refl) in
+    let z = sized-by _ (λ i. p4 .shared-slice-known .given i .fits) _ full (p3 .prepare .ensures .0) (p1 .c .given .1) in
     let t = p3 .prepare .last .1 .1 .1 .0 in
     let n = p1 .c .given .0 .0 .«node_instances» in
     let h : n ≤ length t = omega (arith, p2 .nodes2 .given, z .nodes, z .fewer) in
@@ -57,7 +54,7 @@ array-share-prefix-rules c =
     let p2 = p1 .before .before .before .before in
     let p3 = p2 .before .before .before in
     let p4 = p3 .before .before .before .before .before .before .before .before .before in
-    let z = sized _ (λ i. p4 .shared-slice-known .given i .fits) (checkedValues (Checked.Accepted (p1 .c .given .0 .0))) refl (sym (ap checkedValues (p1 .c .given .1)) ∙ p3 .prepare .ensures .0 ∙ prepared-check _ (λ i. p4 .shared-slice-known .given i .fits) _ (length-replicate {A = ℕ} 1024 0) (length-replicate {A = ℕ} 256 0) (length-replicate {A = ℕ} 256 0) (length-replicate {A = ℕ} 16384 0) refl) in
+    let z = sized-by _ (λ i. p4 .shared-slice-known .given i .fits) _ full (p3 .prepare .ensures .0) (p1 .c .given .1) in
     omega (arith, p2 .rules2 .given, z .nodes, z .fewer)
 
 slice-aggregate-answer-3 : tie.Need-slice-aggregate-answer-3
@@ -66,7 +63,7 @@ slice-aggregate-answer-3 c =
     let p2 = p1 .before .before .before .before in
     let p3 = p2 .before .before .before in
     let p4 = p3 .before .before .before .before .before .before .before .before .before in
-    let z = sized _ (λ i. p4 .shared-slice-known .given i .fits) (checkedValues (Checked.Accepted (p1 .c .given .0 .0))) refl (sym (ap checkedValues (p1 .c .given .1)) ∙ p3 .prepare .ensures .0 ∙ prepared-check _ (λ i. p4 .shared-slice-known .given i .fits) _ (length-replicate {A = ℕ} 1024 0) (length-replicate {A = ℕ} 256 0) (length-replicate {A = ℕ} 256 0) (length-replicate {A = ℕ} 16384 0) refl) in
+    let z = sized-by _ (λ i. p4 .shared-slice-known .given i .fits) _ full (p3 .prepare .ensures .0) (p1 .c .given .1) in
     let t = p3 .prepare .last .1 .1 .1 .1 .0 in
     let n = p1 .c .given .0 .0 .«node_instances» in
     let h : n ≤ length t = omega (arith, p2 .rules2 .given, z .nodes, z .fewer) in
@@ -77,16 +74,16 @@ returns c =
     let p1 = c .before .before .before .before .before .before .before .before .before in
     let p2 = p1 .before .before .before .before .before .before .before in
     let p3 = p2 .before .before .before .before .before .before .before .before .before in
-    let z = sized _ (λ i. p3 .shared-slice-known .given i .fits) (checkedValues (Checked.Accepted (p1 .c .given .0 .0))) refl (sym (ap checkedValues (p1 .c .given .1)) ∙ p2 .prepare .ensures .0 ∙ prepared-check _ (λ i. p3 .shared-slice-known .given i .fits) _ (length-replicate {A = ℕ} 1024 0) (length-replicate {A = ℕ} 256 0) (length-replicate {A = ℕ} 256 0) (length-replicate {A = ℕ} 16384 0) refl) in
+    let z = sized-by _ (λ i. p3 .shared-slice-known .given i .fits) _ full (p2 .prepare .ensures .0) (p1 .c .given .1) in
     let made = p2 .prepare .ensures .1 in
-    let y = tabled _ (λ i. p3 .shared-slice-known .given i .fits) _ (length-replicate {A = ℕ} 1024 0) (length-replicate {A = ℕ} 256 0) (length-replicate {A = ℕ} 256 0) (length-replicate {A = ℕ} 16384 0) refl _ z made in
+    let y = tabled _ (λ i. p3 .shared-slice-known .given i .fits) _ full _ z made in
     c .before .before .answer .ensures (y .0) (y .1)
 
 returns-2 : tie.Need-returns-2
 returns-2 c =
     let p1 = c .before .before .before .before .before .before .before .before in
     let p2 = p1 .before .before .before .before .before .before .before .before .before in
-    answer-refused _ _ _ _ _ (kind-some (c .before .c2 .given .0 .0 .kind)) (sym (ap checkedValues (c .before .c2 .given .1)) ∙ p1 .prepare .ensures .0 ∙ prepared-check _ (λ i. p2 .shared-slice-known .given i .fits) _ (length-replicate {A = ℕ} 1024 0) (length-replicate {A = ℕ} 256 0) (length-replicate {A = ℕ} 256 0) (length-replicate {A = ℕ} 16384 0) refl)
+    answer-refused _ _ _ _ _ (kind-some (c .before .c2 .given .0 .0 .kind)) (refused-is _ (λ i. p2 .shared-slice-known .given i .fits) _ full (p1 .prepare .ensures .0) (c .before .c2 .given .1))
 
 pub isolate-spec : {M : Type 1} → statement M
 isolate-spec =

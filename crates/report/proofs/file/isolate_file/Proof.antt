@@ -1,14 +1,11 @@
-use Prim.Native.Nat.{ℕ, _≤_}
-use mathlib.Core.Path.{refl, sym, _∙_, ap}
+use Prim.Native.Nat.{_≤_}
+use mathlib.Core.Path.{sym}
 use native.Mathlib.Omega.{arith}
-use lib.ListN.{length, length-replicate}
+use lib.ListN.{length}
 use lib.Seq.{length-take-le}
 use borrow.Author.Needs.{needs}
-use Rattle.format.specs.declared.Checked
-use Rattle.format.specs.declared.Checked.{Checked}
-use Rattle.format.specs.Refusals.{checkedValues}
 use Rattle.format.proofs.NumberedLaws.{kind-some}
-use Rattle.isolation.proofs.PreparedLaws.{sized, prepared-check, tabled}
+use Rattle.isolation.proofs.PreparedLaws.{full, sized-by, refused-is, tabled}
 use Rattle.report.proofs.FileLaws.{answer-file}
 use Rattle.report.proofs.file.isolate_file.Statement.{statement}
 use Rattle.report.proofs.file.isolate_file.Tie as tie
@@ -18,7 +15,7 @@ array-share-prefix-keys c =
     let p1 = c .before .before .before .before .before .before .before in
     let p2 = p1 .before in
     let p3 = p2 .before .before .before .before .before .before .before .before in
-    let z = sized _ (λ i. p3 .shared-slice-known .given i .fits) (checkedValues (Checked.Accepted (c .before .c .given .0 .0))) refl (sym (ap checkedValues (c .before .c .given .1)) ∙ p2 .prepare .ensures .0 ∙ prepared-check _ (λ i. p3 .shared-slice-known .given i .fits) _ (length-replicate {A = ℕ} 1024 0) (length-replicate {A = ℕ} 256 0) (length-replicate {A = ℕ} 256 0) (length-replicate {A = ℕ} 16384 0) refl) in
+    let z = sized-by _ (λ i. p3 .shared-slice-known .given i .fits) _ full (p2 .prepare .ensures .0) (c .before .c .given .1) in
     omega (arith, p1 .keys2 .given, z .registers, z .few)
 
 slice-aggregate-isolate-named : tie.Need-slice-aggregate-isolate-named
@@ -26,7 +23,7 @@ slice-aggregate-isolate-named c =
     let p1 = c .before .before .before .before .before .before .before .before in
     let p2 = p1 .before in
     let p3 = p2 .before .before .before .before .before .before .before .before in
-    let z = sized _ (λ i. p3 .shared-slice-known .given i .fits) (checkedValues (Checked.Accepted (c .before .before .c .given .0 .0))) refl (sym (ap checkedValues (c .before .before .c .given .1)) ∙ p2 .prepare .ensures .0 ∙ prepared-check _ (λ i. p3 .shared-slice-known .given i .fits) _ (length-replicate {A = ℕ} 1024 0) (length-replicate {A = ℕ} 256 0) (length-replicate {A = ℕ} 256 0) (length-replicate {A = ℕ} 16384 0) refl) in
+    let z = sized-by _ (λ i. p3 .shared-slice-known .given i .fits) _ full (p2 .prepare .ensures .0) (c .before .before .c .given .1) in
     let t = p2 .prepare .last .1 .1 .0 in
     let n = c .before .before .c .given .0 .0 .«register_instances» in
     let h : n ≤ length t = omega (arith, p1 .keys2 .given, z .registers, z .few) in
@@ -37,15 +34,15 @@ returns c =
     let p1 = c .before .before .before .before .before .before in
     let p2 = p1 .before .before .before .before .before .before .before in
     let p3 = p2 .before .before .before .before .before .before .before .before in
-    let z = sized _ (λ i. p3 .shared-slice-known .given i .fits) (checkedValues (Checked.Accepted (p1 .c .given .0 .0))) refl (sym (ap checkedValues (p1 .c .given .1)) ∙ p2 .prepare .ensures .0 ∙ prepared-check _ (λ i. p3 .shared-slice-known .given i .fits) _ (length-replicate {A = ℕ} 1024 0) (length-replicate {A = ℕ} 256 0) (length-replicate {A = ℕ} 256 0) (length-replicate {A = ℕ} 16384 0) refl) in
-    let y = tabled _ (λ i. p3 .shared-slice-known .given i .fits) _ (length-replicate {A = ℕ} 1024 0) (length-replicate {A = ℕ} 256 0) (length-replicate {A = ℕ} 256 0) (length-replicate {A = ℕ} 16384 0) refl _ z (p2 .prepare .ensures .1) in
+    let z = sized-by _ (λ i. p3 .shared-slice-known .given i .fits) _ full (p2 .prepare .ensures .0) (p1 .c .given .1) in
+    let y = tabled _ (λ i. p3 .shared-slice-known .given i .fits) _ full _ z (p2 .prepare .ensures .1) in
     c .before .before .isolate-named .ensures (y .0 .chip) (y .0 .end) (y .0 .accepted) (y .0 .keys-are)
 
 returns-2 : tie.Need-returns-2
 returns-2 c =
     let p1 = c .before .before .before .before .before .before .before .before in
     let p2 = p1 .before .before .before .before .before .before .before .before in
-    answer-file _ _ _ _ (kind-some (c .before .c2 .given .0 .0 .kind)) (sym (ap checkedValues (c .before .c2 .given .1)) ∙ p1 .prepare .ensures .0 ∙ prepared-check _ (λ i. p2 .shared-slice-known .given i .fits) _ (length-replicate {A = ℕ} 1024 0) (length-replicate {A = ℕ} 256 0) (length-replicate {A = ℕ} 256 0) (length-replicate {A = ℕ} 16384 0) refl)
+    answer-file _ _ _ _ (kind-some (c .before .c2 .given .0 .0 .kind)) (refused-is _ (λ i. p2 .shared-slice-known .given i .fits) _ full (p1 .prepare .ensures .0) (c .before .c2 .given .1))
 
 pub isolate-file-spec : {M : Type 1} → statement M
 isolate-file-spec =
