@@ -1,5 +1,5 @@
 -- A loop over a row of elements that a number tells apart.
-use Prim.Native.Nat.{ℕ, _+_, _-_, _≤_, _<_}
+use Prim.Native.Nat.{ℕ, max, _+_, _-_, _≤_, _<_}
 use mathlib.Core.Path.{_≡_, refl, sym, _∙_, ap, fun-ext}
 use mathlib.Core.Bool.{true}
 use mathlib.Core.List.{List, [], _∷_, map}
@@ -9,14 +9,14 @@ use Rattle.format.specs.Fields.{fresh}
 use lib.ListN.{length, take, set, replicate, length-set, length-replicate}
 use Rattle.format.specs.declared.Refusal.{Refusal}
 use Rattle.format.specs.Parsed.{Parsed, done, refused, making, rowAt}
-use Rattle.fields.specs.Seen.{unmarked, Tells}
+use Rattle.fields.specs.Seen.{unmarked, newAfter, Tells, Largest}
 use Rattle.fields.specs.declared.NextRead
 use Rattle.fields.specs.declared.NextRead.{NextRead}
 use Rattle.fields.specs.declared.CountRead
 use Rattle.fields.specs.declared.CountRead.{CountRead}
 use Rattle.fields.specs.Views.{Element, Section, refusedBy, nextParsed, countParsed, forget}
 use Rattle.fields.proofs.Parsing.{Found, found, missed, making-making, row-end, row-step, row-stop, row-length}
-use Rattle.fields.proofs.SeenLaws.{tells-none, tells-mark, tells-nothing, tells-put}
+use Rattle.fields.proofs.SeenLaws.{tells-none, tells-mark, tells-nothing, tells-put, tells-new, largest-nothing, largest-put}
 
 -- `left` elements are to come at `place`; `table` marks the numbers of those before, and with these `begun` have begun, of which `base` had before the row.
 pub record Row {A : Type 0} (p : List A → ℕ → Parsed A) (number : A → ℕ) (whole : Parsed (List A)) (base begun : ℕ) (table : List ℕ) (left place : ℕ) : Type 0 where
@@ -63,29 +63,34 @@ module _ {A : Type 0} (p : List A → ℕ → Parsed A) (n at : ℕ) {x : NextRe
   unfolding making
   row-missed g e h k = k ∙ sym (ap (making g) (missed (λ _. tt) (rowAt p n [] at) (sym (ap nextParsed h) ∙ e)))
 
--- A loop over registers or nodes: `ids` holds the IDs of those before, of which there are `known`; these have `total` instances.
-pub record Elements {A : Type 0} (p : List A → ℕ → Parsed A) (id : A → ℕ) (totalOf : List A → ℕ) (whole : Parsed (List A)) (ids : List ℕ) (known total left place : ℕ) : Type 0 where
+-- A loop over registers or nodes: `ids` holds the IDs of those before, of which there are `known`, each at most `largest`; these have `total` instances.
+pub record Elements {A : Type 0} (p : List A → ℕ → Parsed A) (id : A → ℕ) (totalOf : List A → ℕ) (whole : Parsed (List A)) (ids : List ℕ) (known largest total left place : ℕ) : Type 0 where
   pub before : List A
-  pub told : Tells (fresh true (take known ids)) (map id before)
+  pub listed : Tells (fresh true (take known ids)) (map id before)
+  pub bound : Largest largest (map id before)
   pub counted : total ≡ totalOf before
   pub same : making totalOf whole ≡ making (λ xs. total + totalOf xs) (rowAt p left before place)
 
 module _ {A : Type 0} (p : List A → ℕ → Parsed A) (id size : A → ℕ) (totalOf : List A → ℕ) (nothing : totalOf [] ≡ 0) (another : (a : A) (xs : List A) → totalOf (a ∷ xs) ≡ size a + totalOf xs) where
-  pub elements-begin : (n at : ℕ) (ids : List ℕ) → Elements p id totalOf (rowAt p n [] at) ids 0 0 n at
+  pub elements-begin : (n at : ℕ) (ids : List ℕ) → Elements p id totalOf (rowAt p n [] at) ids 0 0 0 n at
   elements-begin n at ids =
-      record { before = []; told = tells-nothing ids; counted = sym nothing; same = ap (λ g. making g (rowAt p n [] at)) (fun-ext (λ xs. sym (zero-add (totalOf xs)))) }
+      record { before = []; listed = tells-nothing ids; bound = largest-nothing 0; counted = sym nothing; same = ap (λ g. making g (rowAt p n [] at)) (fun-ext (λ xs. sym (zero-add (totalOf xs)))) }
 
-  module _ {whole : Parsed (List A)} {ids : List ℕ} {known total n at : ℕ} (r : Elements p id totalOf whole ids known total n at) where
-    pub elements-next : {i k m : ℕ} → _≡_ {A = Parsed Element} (done (record { id = i; instances = k }) m) (making (λ a. record { id = id a; instances = size a }) (p (r .before) at)) → 0 < n → known < length ids
-        → Elements p id totalOf whole (set ids known i) (known + 1) (total + k) (n - 1) m
-    elements-next {i} {k} {m} e h l =
+  module _ {whole : Parsed (List A)} {ids : List ℕ} {known largest total n at : ℕ} (r : Elements p id totalOf whole ids known largest total n at) where
+    pub elements-told : Tells (newAfter largest (take known ids)) (map id (r .before))
+    elements-told = tells-new largest (take known ids) (r .listed) (r .bound)
+
+    pub elements-next : {i k m j : ℕ} → _≡_ {A = Parsed Element} (done (record { id = i; instances = k }) m) (making (λ a. record { id = id a; instances = size a }) (p (r .before) at)) → 0 < n → known < length ids → j ≡ max largest i
+        → Elements p id totalOf whole (set ids known i) (known + 1) j (total + k) (n - 1) m
+    elements-next {i} {k} {m} e h l g =
         let f : Found {B = Element} (λ a. record { id = id a; instances = size a }) (p (r .before) at) (record { id = i; instances = k }) m = found _ (p (r .before) at) e in
         let a = f .value in
         let ei : id a ≡ i = ap (λ x. x .id) (f .made) in
         let ek : size a ≡ k = ap (λ x. x .instances) (f .made) in
         record {
           before = a ∷ r .before;
-          told = tells-put ids (map id (r .before)) known i l (r .told) ei;
+          listed = tells-put ids (map id (r .before)) known i l (r .listed) ei;
+          bound = largest-put largest (map id (r .before)) i (r .bound) ei g;
           counted = omega (arith, another a (r .before), r .counted);
           same = r .same ∙ ap (making (λ xs. total + totalOf xs)) (row-step p n (r .before) at h (f .is)) ∙ making-making _ _ _
               ∙ ap (λ g. making g (rowAt p (n - 1) (a ∷ r .before) m)) (fun-ext (λ xs. omega (arith, another a xs)));

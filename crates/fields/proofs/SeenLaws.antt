@@ -1,17 +1,18 @@
 -- The laws of marks and of lists of IDs.
-use Prim.Native.Nat.{ℕ, zero, suc, _+_, _-_, _≤_, _<_}
+use Prim.Native.Nat.{ℕ, zero, suc, max, _+_, _-_, _≤_, _<_}
 use mathlib.Core.Path.{_≡_, refl, sym, _∙_, ap, fun-ext}
 use mathlib.Core.Bool.{Bool, true, false, not, _||_}
 use mathlib.Core.List.{List, [], _∷_, _++_}
 use mathlib.Core.Logic.{_⊎_, ⊎-elim}
 use native.Mathlib.Numerals.{add-one}
-use borrow.Author.Tests.{eq-eqb, ne-eqb}
+use native.Mathlib.Omega.{arith}
+use borrow.Author.Tests.{lt-ltb, le-ltb, ltb-true, eq-eqb, ne-eqb}
 use lib.ListN.{length, take, drop, getD, set, replicate, List·getD-eq-default, drop-of-length-le}
 use lib.Seq.{drop-cons, getD-set-same, getD-set-other, take-suc-set}
-use lib.Dec.{eqb}
-use Rattle.numbers.proofs.Bools.{either, clash, same?}
+use lib.Dec.{ltb, eqb}
+use Rattle.numbers.proofs.Bools.{either, clash, or-left, same?}
 use Rattle.format.specs.Fields.{member, fresh}
-use Rattle.fields.specs.Seen.{unmarked, instanceNumberAt, Tells}
+use Rattle.fields.specs.Seen.{unmarked, newAfter, instanceNumberAt, Tells, Largest}
 
 pub unmarked-beyond : (table : List ℕ) (x : ℕ) → length table ≤ x → false ≡ not (unmarked table x)
 unfolding unmarked
@@ -39,15 +40,23 @@ module _ (table : List ℕ) (x : ℕ) {b : Bool} where
   pub mark-there : b ≡ not (unmarked table x) → b ≡ true → unmarked table x ≡ false
   mark-there e g = ⊎-elim (λ h. clash g (e ∙ ap not h)) (λ h. h) (either (unmarked table x))
 
-pub fresh-new : (numbers : List ℕ) (x : ℕ) {b : Bool} → b ≡ member x numbers → b ≡ false → fresh true numbers x ≡ true
-unfolding fresh
-fresh-new numbers x e g = rw (sym e ∙ g)
+-- An ID above the largest is new, and another is looked for.
+module _ (largest : ℕ) (ids : List ℕ) (x : ℕ) where
+  pub new-above : largest < x → true ≡ newAfter largest ids x
+  unfolding newAfter
+  new-above h = sym (or-left (fresh true ids x) (lt-ltb largest x h))
 
-pub fresh-old : (numbers : List ℕ) (x : ℕ) {b : Bool} → b ≡ member x numbers → b ≡ true → fresh true numbers x ≡ false
-unfolding fresh
-fresh-old numbers x e g = rw (sym e ∙ g)
+  pub new-sought : {b : Bool} → x ≤ largest → b ≡ member x ids → not b ≡ newAfter largest ids x
+  unfolding newAfter fresh
+  new-sought h e = rw (le-ltb largest x h) (ap not e)
 
-pub ruleset seen-laws = (mark-none, mark-there, fresh-new, fresh-old)
+  pub new-yes : {b : Bool} → b ≡ newAfter largest ids x → not b ≡ false → newAfter largest ids x ≡ true
+  new-yes e g = ⊎-elim (λ h. h) (λ h. clash (ap not (e ∙ h)) g) (either (newAfter largest ids x))
+
+  pub new-no : {b : Bool} → b ≡ newAfter largest ids x → not b ≡ true → newAfter largest ids x ≡ false
+  new-no e g = ⊎-elim (λ h. clash g (ap not (e ∙ h))) (λ h. h) (either (newAfter largest ids x))
+
+pub ruleset seen-laws = (mark-none, mark-there, new-yes, new-no)
 
 -- No number has come.
 pub tells-none : (n : ℕ) → Tells (unmarked (replicate n 0)) []
@@ -106,3 +115,22 @@ tells-nothing ids = record { tells = λ x. refl }
 
 pub tells-put : (ids numbers : List ℕ) (n v : ℕ) {w : ℕ} → n < length ids → Tells (fresh true (take n ids)) numbers → w ≡ v → Tells (fresh true (take (n + 1) (set ids n v))) (w ∷ numbers)
 tells-put ids numbers n v h t e = rw (e, add-one) (record { tells = λ x. put-is ids numbers n v x h (t .tells x) })
+
+-- The largest ID decides for those above it.
+pub largest-nothing : (largest : ℕ) → Largest largest []
+unfolding fresh member
+largest-nothing largest = record { above = λ x h. refl }
+
+put-above : (numbers : List ℕ) (v x : ℕ) → (x ≡ v → ⊥) → fresh true numbers x ≡ true → fresh true (v ∷ numbers) x ≡ true
+unfolding fresh member
+put-above numbers v x h e = rw (ne-eqb x v h) e
+
+pub largest-put : (largest : ℕ) (numbers : List ℕ) (v : ℕ) {w m : ℕ} → Largest largest numbers → w ≡ v → m ≡ max largest v → Largest m (w ∷ numbers)
+largest-put largest numbers v {w} t e g = record { above = λ x h. put-above numbers w x (λ i. omega arith) (t .above x (omega arith)) }
+
+pub tells-new : (largest : ℕ) (ids : List ℕ) {numbers : List ℕ} → Tells (fresh true ids) numbers → Largest largest numbers → Tells (newAfter largest ids) numbers
+unfolding newAfter
+tells-new largest ids {numbers} t l = record { tells = λ x. ⊎-elim (λ h. or-left (fresh true ids x) h ∙ sym (l .above x (ltb-true largest x h))) (λ h. rw h (t .tells x)) (either (ltb largest x)) }
+
+pub new-nothing : (largest : ℕ) → Tells (newAfter largest []) []
+new-nothing largest = tells-new largest [] (tells-nothing []) (largest-nothing largest)

@@ -1,14 +1,15 @@
-// What the reader keeps of the elements before: marks for numbers of one byte, and a list of IDs.
+// What the reader keeps of the elements before: marks for numbers of one byte, and a list of IDs with the largest of them.
 use crate::ByteRead;
 use crate::attention_at;
 use crate::byte_at;
 use format::Kind;
 use format::Refusal;
+ghost use Prim.Native.Nat.{max};
 ghost use mathlib.Core.Bool.{not};
 ghost use mathlib.Core.Path.{_≡_};
 ghost use Rattle.format.specs.Fields.{member, attentionAt};
 ghost use Rattle.format.specs.Parsed.{requiring};
-ghost use Rattle.fields.specs.Seen.{unmarked, instanceNumberAt};
+ghost use Rattle.fields.specs.Seen.{unmarked, newAfter, instanceNumberAt};
 ghost use Rattle.fields.specs.Views.{byteParsed};
 
 // Whether a number has a mark.
@@ -23,7 +24,7 @@ pub fn is_marked(seen: &[u8], x: u8) -> bool
 }
 
 // Whether an ID stands in a list. It looks at each ID once, up to the one that is sought.
-pub fn contains(ids: &[u64], id: u64) -> bool
+fn contains(ids: &[u64], id: u64) -> bool
     ensures { λ r. ⌜ r ≡ member id (now (ids .entry)) ⌝ }
 {
     let mut i = 0;
@@ -34,6 +35,26 @@ pub fn contains(ids: &[u64], id: u64) -> bool
         i += 1;
     }
     false
+}
+
+// Whether an ID is new after those of a list, each of which is at most `largest`. It looks at the list only where the ID is not above `largest`.
+pub fn is_new(ids: &[u64], largest: u64, id: u64) -> bool
+    ensures { λ r. ⌜ r ≡ newAfter largest (now (ids .entry)) id ⌝ }
+{
+    if largest < id {
+        return true;
+    }
+    !contains(ids, id)
+}
+
+// The larger of two IDs.
+pub fn larger(a: u64, b: u64) -> u64
+    ensures { λ r. ⌜ r ≡ max a b ⌝ }
+{
+    if a < b {
+        return b;
+    }
+    a
 }
 
 // The number byte of an instance: `seen` marks the numbers before it, and `begun` instances stand before it in the file.

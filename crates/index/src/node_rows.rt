@@ -89,7 +89,7 @@ fn head_at(s: &[u8], at: usize) -> Head
     ensures { λ r. ⌜ ((ids : List ℕ) (h : NodeHead) (m : ℕ) → nodeHeadAt (now (s .entry)) true ids at ≡ done h m → r ≡ nodeHeadOf h m) ⌝ }
 {
     let none = [0u64; 1];
-    let top = node_head_at(s, at, &none[..0]);
+    let top = node_head_at(s, at, &none[..0], 0);
     match top {
         NodeHeadRead::Head(h, next) => Head {
             id: h.id,

@@ -20,7 +20,7 @@ use Rattle.nodes.specs.declared.NodeHeadRead.{NodeHeadRead}
 use Rattle.nodes.specs.declared.InstanceHead as instance
 use Rattle.nodes.specs.declared.InstanceHeadRead
 use Rattle.nodes.specs.declared.InstanceHeadRead.{InstanceHeadRead}
-use Rattle.fields.specs.Seen.{unmarked, instanceNumberAt, Tells}
+use Rattle.fields.specs.Seen.{unmarked, newAfter, instanceNumberAt, Tells}
 use Rattle.nodes.specs.Nodes.{childBitAt, countsAt, nodeBodyAt}
 use Rattle.fields.specs.Views.{Element, refusedBy}
 use Rattle.nodes.specs.Nodes.{nodeHeadParsed, instanceHeadParsed, ruleAttention, childBit, nodeNumber, nodeId, nodeElement}
@@ -100,13 +100,20 @@ instance-room g s total before at {v} {m} e =
     let k : total + length before < nodeLimit = ltb-true _ _ j in
     omega (arith, node-limit)
 
--- A node after those that the IDs tell of.
-pub node-told : (g : Node → Element) (s : List ℕ) (before : List Node) (at : ℕ) (ids : List ℕ) {total : ℕ} {y : Parsed Element}
-    → Tells (fresh true ids) (map nodeId before) → total ≡ nodeTotal before
-    → y ≡ making g (andThen (nodeHeadAt s true ids at) λ h a. making (λ is. record { id = h .id; type = h .type; instances = is }) (rowAt (nodeInstanceAt s true total) (h .count) [] a))
+-- The head of a node after those that the IDs tell of.
+pub node-head-told : (s : List ℕ) (numbers : List ℕ) (at largest : ℕ) (ids : List ℕ) {y : Parsed NodeHead} → Tells (newAfter largest ids) numbers
+    → y ≡ andThen (requiring (newAfter largest ids) 7 at (fieldAt s at 2)) (λ i a. andThen (typeAt s a) λ t b. making (λ n. record { id = i; type = t; count = n }) (countAt s b 1))
+    → y ≡ nodeHeadAt s true numbers at
+unfolding nodeHeadAt
+node-head-told s numbers at largest ids t k = rw (← tells-is t) k
+
+-- A node is its head and its instances.
+pub node-told : (g : Node → Element) (s : List ℕ) (before : List Node) (at : ℕ) {total : ℕ} {y : Parsed Element}
+    → total ≡ nodeTotal before
+    → y ≡ making g (andThen (nodeHeadAt s true (map nodeId before) at) λ h a. making (λ is. record { id = h .id; type = h .type; instances = is }) (rowAt (nodeInstanceAt s true total) (h .count) [] a))
     → y ≡ making g (nodeAt s true before at)
-unfolding nodeAt nodeHeadAt
-node-told g s before at ids {total} {y} t e k = rw (← e, ← tells-is t) k
+unfolding nodeAt
+node-told g s before at {total} {y} e k = rw (← e) k
 
 module _ {B : Type 0} (g : B → Element) (p : Parsed NodeHead) (f : NodeHead → ℕ → Parsed B) {y : Parsed Element} where
   pub head-then : {x : NodeHeadRead} {h : declared.NodeHead} {n : ℕ} → nodeHeadParsed x ≡ p → x ≡ NodeHeadRead.Head h n
@@ -148,4 +155,4 @@ node-size s before at {i} {k} {m} e =
     let q : length (j .value) ≡ k = ap length o ∙ n in
     (omega arith, omega arith)
 
-pub ruleset node-laws = (rule-told, child-told, head-told, instance-told, instance-stop, node-told, head-then, head-stop)
+pub ruleset node-laws = (rule-told, child-told, head-told, instance-told, instance-stop, node-head-told, node-told, head-then, head-stop)

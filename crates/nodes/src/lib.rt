@@ -11,9 +11,10 @@ use fields::byte_count_at;
 use fields::keyword_at;
 use fields::number_at;
 use fields::number_count_at;
-use fields::seen::contains;
 use fields::seen::instance_number_at;
 use fields::seen::is_marked;
+use fields::seen::is_new;
+use fields::seen::larger;
 use fields::seen::new_attention_at;
 use fields::type_at;
 use format::Kind;
@@ -24,11 +25,11 @@ ghost use mathlib.Core.Bool.{true};
 ghost use mathlib.Core.List.{List, [], map};
 ghost use mathlib.Core.Path.{_≡_};
 ghost use lib.ListN.{length};
-ghost use Rattle.format.specs.Fields.{fieldAt, fresh};
+ghost use Rattle.format.specs.Fields.{fieldAt};
 ghost use Rattle.format.specs.Parsed.{making, requiring, rowAt};
 ghost use Rattle.format.specs.Tree.{Rule, Child, NodeInstance, Node};
 ghost use Rattle.format.specs.NodeLayout.{captureAt, ruleAt, childAt, instanceHeadAt, nodeInstanceAt, nodeTotal, nodeHeadAt, nodeAt, nodesAt};
-ghost use Rattle.fields.specs.Seen.{unmarked, Tells};
+ghost use Rattle.fields.specs.Seen.{unmarked, newAfter, Tells};
 ghost use Rattle.nodes.specs.Nodes.{childBitAt, countsAt, nodeBodyAt};
 ghost use Rattle.fields.specs.Views.{byteParsed, numberParsed, nextParsed, elementParsed, countParsed, sectionParsed, forget};
 ghost use Rattle.nodes.specs.Nodes.{instanceHeadParsed, nodeHeadParsed, ruleAttention, childBit, nodeNumber, nodeId, nodeElement, nodeSection};
@@ -320,14 +321,14 @@ fn node_instances_at(s: &[u8], at: usize, count: u8, total: usize) -> NextRead
     NextRead::Next(place)
 }
 
-// The ID of a node: none of those before it.
-fn node_id_at(s: &[u8], at: usize, ids: &[u64]) -> NumberRead
-    ensures { λ r. ⌜ numberParsed r ≡ requiring (fresh true (now (ids .entry))) 7 at (fieldAt (now (s .entry)) at 2) ⌝ }
+// The ID of a node: none of those before it, each of which is at most `largest`.
+fn node_id_at(s: &[u8], at: usize, ids: &[u64], largest: u64) -> NumberRead
+    ensures { λ r. ⌜ numberParsed r ≡ requiring (newAfter largest (now (ids .entry))) 7 at (fieldAt (now (s .entry)) at 2) ⌝ }
 {
     let i = number_at(s, at, Width::Two);
     match i {
         NumberRead::Number(id, next) => {
-            if contains(ids, id) {
+            if !is_new(ids, largest, id) {
                 return NumberRead::Refused(Refusal {
                     kind: Kind::Duplicate,
                     place: at,
@@ -339,11 +340,13 @@ fn node_id_at(s: &[u8], at: usize, ids: &[u64]) -> NumberRead
     }
 }
 
-// What a node starts with; `ids` are the IDs of the nodes before it.
-pub fn node_head_at(s: &[u8], at: usize, ids: &[u64]) -> NodeHeadRead
-    ensures { λ r. ⌜ nodeHeadParsed r ≡ nodeHeadAt (now (s .entry)) true (now (ids .entry)) at ⌝ }
+// What a node starts with; `ids` are the IDs of the nodes before it, each at most `largest`.
+pub fn node_head_at(s: &[u8], at: usize, ids: &[u64], largest: u64) -> NodeHeadRead
+    ensures { λ r. ⌜ ((numbers : List ℕ)
+        → Tells (newAfter largest (now (ids .entry))) numbers
+        → nodeHeadParsed r ≡ nodeHeadAt (now (s .entry)) true numbers at) ⌝ }
 {
-    let i = node_id_at(s, at, ids);
+    let i = node_id_at(s, at, ids, largest);
     match i {
         NumberRead::Number(id, a) => {
             let t = type_at(s, a);
@@ -365,14 +368,14 @@ pub fn node_head_at(s: &[u8], at: usize, ids: &[u64]) -> NodeHeadRead
     }
 }
 
-// A node: its ID and how many instances it has. `ids` are the IDs of the nodes before it, and `total` is how many instances these have.
-fn node_at(s: &[u8], at: usize, ids: &[u64], total: usize) -> ElementRead
+// A node: its ID and how many instances it has. `ids` are the IDs of the nodes before it, each at most `largest`, and `total` is how many instances these nodes have.
+fn node_at(s: &[u8], at: usize, ids: &[u64], largest: u64, total: usize) -> ElementRead
     ensures { λ r. ⌜ ((before : List Node)
-        → Tells (fresh true (now (ids .entry))) (map nodeId before)
+        → Tells (newAfter largest (now (ids .entry))) (map nodeId before)
         → total ≡ nodeTotal before
         → elementParsed r ≡ making nodeElement (nodeAt (now (s .entry)) true before at)) ⌝ }
 {
-    let top = node_head_at(s, at, ids);
+    let top = node_head_at(s, at, ids, largest);
     match top {
         NodeHeadRead::Head(h, a) => {
             let id = h.id;
@@ -387,20 +390,22 @@ fn node_at(s: &[u8], at: usize, ids: &[u64], total: usize) -> ElementRead
     }
 }
 
-// So many nodes: how many instances they have. It reads each node once, and looks for its ID among those before it.
+// So many nodes: how many instances they have. It reads each node once, and looks for its ID among those before it only where it is not above all of them.
 fn node_rows_at(s: &[u8], at: usize, n: u64) -> CountRead
     ensures { λ r. ⌜ countParsed r ≡ making nodeTotal (rowAt (nodeAt (now (s .entry)) true) n [] at) ⌝ }
 {
     let mut ids = [0u64; format::NODE_LIMIT];
     let mut known = 0;
+    let mut largest = 0;
     let mut total = 0;
     let mut left = n;
     let mut place = at;
     while 0 < left {
-        let e = node_at(s, place, &ids[..known], total);
+        let e = node_at(s, place, &ids[..known], largest, total);
         match e {
             ElementRead::Element(id, count, next) => {
                 ids[known] = id;
+                largest = larger(largest, id);
                 total += count as usize;
                 place = next;
             }

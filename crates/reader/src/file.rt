@@ -29,7 +29,7 @@ ghost use Rattle.reader.specs.declared.Layout.{Layout};
 ghost use Rattle.reader.specs.declared.LayoutRead.{LayoutRead};
 ghost use Rattle.reader.specs.Layout.{laidOut, Bounded, layoutParsed, layoutAt, wholeAt, layoutValues};
 
-// The layout of a file that starts at the slice's first byte. It reads each byte of the file at most once; number 7 costs a look at the IDs before each register and node.
+// The layout of a file that starts at the slice's first byte. It reads each byte of the file at most once; number 7 costs a look at the IDs before each register and node whose ID is not above all of these.
 pub fn layout(s: &[u8]) -> LayoutRead
     ensures { λ r. ⌜ layoutParsed r ≡ layoutAt (now (s .entry)) 0 ⌝ }
 {

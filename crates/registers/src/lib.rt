@@ -10,8 +10,9 @@ use fields::flags_at;
 use fields::keyword_at;
 use fields::number_at;
 use fields::number_count_at;
-use fields::seen::contains;
 use fields::seen::instance_number_at;
+use fields::seen::is_new;
+use fields::seen::larger;
 use fields::type_at;
 use format::Kind;
 use format::Refusal;
@@ -21,11 +22,11 @@ ghost use mathlib.Core.Bool.{true};
 ghost use mathlib.Core.List.{List, [], map};
 ghost use mathlib.Core.Path.{_≡_};
 ghost use lib.ListN.{length};
-ghost use Rattle.format.specs.Fields.{fieldAt, addressSize, fresh};
+ghost use Rattle.format.specs.Fields.{fieldAt, addressSize};
 ghost use Rattle.format.specs.Parsed.{making, requiring, rowAt};
 ghost use Rattle.format.specs.Tree.{RegisterInstance, Register};
 ghost use Rattle.format.specs.RegisterLayout.{registerTotal, registerInstanceAt, registerHeadAt, registerAt, registersAt};
-ghost use Rattle.fields.specs.Seen.{unmarked, Tells};
+ghost use Rattle.fields.specs.Seen.{unmarked, newAfter, Tells};
 ghost use Rattle.registers.specs.Registers.{registerFlagsAt};
 ghost use Rattle.fields.specs.Views.{byteParsed, numberParsed, nextParsed, elementParsed, countParsed, sectionParsed, forget};
 ghost use Rattle.registers.specs.Registers.{registerHeadParsed, registerNumber, registerId, registerElement, registerSection};
@@ -99,14 +100,14 @@ fn register_instances_at(s: &[u8], at: usize, kind: u8, count: u8, total: usize)
     NextRead::Next(place)
 }
 
-// The ID of a register: none of those before it.
-fn register_id_at(s: &[u8], at: usize, ids: &[u64]) -> NumberRead
-    ensures { λ r. ⌜ numberParsed r ≡ requiring (fresh true (now (ids .entry))) 7 at (fieldAt (now (s .entry)) at 3) ⌝ }
+// The ID of a register: none of those before it, each of which is at most `largest`.
+fn register_id_at(s: &[u8], at: usize, ids: &[u64], largest: u64) -> NumberRead
+    ensures { λ r. ⌜ numberParsed r ≡ requiring (newAfter largest (now (ids .entry))) 7 at (fieldAt (now (s .entry)) at 3) ⌝ }
 {
     let i = number_at(s, at, Width::Three);
     match i {
         NumberRead::Number(id, next) => {
-            if contains(ids, id) {
+            if !is_new(ids, largest, id) {
                 return NumberRead::Refused(Refusal {
                     kind: Kind::Duplicate,
                     place: at,
@@ -143,11 +144,13 @@ fn register_flags_at(s: &[u8], at: usize, id: u64, kind: u8) -> RegisterHeadRead
     }
 }
 
-// What a register starts with; `ids` are the IDs of the registers before it.
-pub fn register_head_at(s: &[u8], at: usize, ids: &[u64]) -> RegisterHeadRead
-    ensures { λ r. ⌜ registerHeadParsed r ≡ registerHeadAt (now (s .entry)) true (now (ids .entry)) at ⌝ }
+// What a register starts with; `ids` are the IDs of the registers before it, each at most `largest`.
+pub fn register_head_at(s: &[u8], at: usize, ids: &[u64], largest: u64) -> RegisterHeadRead
+    ensures { λ r. ⌜ ((numbers : List ℕ)
+        → Tells (newAfter largest (now (ids .entry))) numbers
+        → registerHeadParsed r ≡ registerHeadAt (now (s .entry)) true numbers at) ⌝ }
 {
-    let i = register_id_at(s, at, ids);
+    let i = register_id_at(s, at, ids, largest);
     match i {
         NumberRead::Number(id, a) => {
             let t = type_at(s, a);
@@ -160,14 +163,14 @@ pub fn register_head_at(s: &[u8], at: usize, ids: &[u64]) -> RegisterHeadRead
     }
 }
 
-// A register: its ID and how many instances it has. `ids` are the IDs of the registers before it, and `total` is how many instances these have.
-fn register_at(s: &[u8], at: usize, ids: &[u64], total: usize) -> ElementRead
+// A register: its ID and how many instances it has. `ids` are the IDs of the registers before it, each at most `largest`, and `total` is how many instances these registers have.
+fn register_at(s: &[u8], at: usize, ids: &[u64], largest: u64, total: usize) -> ElementRead
     ensures { λ r. ⌜ ((before : List Register)
-        → Tells (fresh true (now (ids .entry))) (map registerId before)
+        → Tells (newAfter largest (now (ids .entry))) (map registerId before)
         → total ≡ registerTotal before
         → elementParsed r ≡ making registerElement (registerAt (now (s .entry)) true before at)) ⌝ }
 {
-    let top = register_head_at(s, at, ids);
+    let top = register_head_at(s, at, ids, largest);
     match top {
         RegisterHeadRead::Head(h, a) => {
             let id = h.id;
@@ -182,20 +185,22 @@ fn register_at(s: &[u8], at: usize, ids: &[u64], total: usize) -> ElementRead
     }
 }
 
-// So many registers: how many instances they have. It reads each register once, and looks for its ID among those before it.
+// So many registers: how many instances they have. It reads each register once, and looks for its ID among those before it only where it is not above all of them.
 fn register_rows_at(s: &[u8], at: usize, n: u64) -> CountRead
     ensures { λ r. ⌜ countParsed r ≡ making registerTotal (rowAt (registerAt (now (s .entry)) true) n [] at) ⌝ }
 {
     let mut ids = [0u64; format::REGISTER_LIMIT];
     let mut known = 0;
+    let mut largest = 0;
     let mut total = 0;
     let mut left = n;
     let mut place = at;
     while 0 < left {
-        let e = register_at(s, place, &ids[..known], total);
+        let e = register_at(s, place, &ids[..known], largest, total);
         match e {
             ElementRead::Element(id, count, next) => {
                 ids[known] = id;
+                largest = larger(largest, id);
                 total += count as usize;
                 place = next;
             }

@@ -1,11 +1,22 @@
 use borrow.Author.Needs.{needs}
-use Rattle.format.specs.NodeLayout.{nodeHeadAt}
 use Rattle.fields.proofs.Steps.{steps}
+use Rattle.nodes.proofs.NodeLaws.{node-laws}
 use Rattle.nodes.proofs.node_head_at.Statement.{statement}
 use Rattle.nodes.proofs.node_head_at.Tie as tie
 
+returns : tie.Need-returns
+returns c numbers t = search (steps, node-laws) depth 8
+
+returns-2 : tie.Need-returns-2
+returns-2 c numbers t = search (steps, node-laws) depth 8
+
+returns-3 : tie.Need-returns-3
+returns-3 c numbers t = search (steps, node-laws) depth 8
+
+returns-4 : tie.Need-returns-4
+returns-4 c numbers t = search (steps, node-laws) depth 8
+
 pub node-head-at-spec : {M : Type 1} → statement M
-unfolding nodeHeadAt
 node-head-at-spec =
     tie.close
     (tie.spec
@@ -18,7 +29,7 @@ node-head-at-spec =
     (λ c. search needs)
     (λ c. search needs)
     (λ c. search needs)
-    (λ c. search steps)
-    (λ c. search steps)
-    (λ c. search steps)
-    (λ c. search steps))
+    returns
+    returns-2
+    returns-3
+    returns-4)

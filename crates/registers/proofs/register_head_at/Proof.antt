@@ -1,12 +1,19 @@
 use borrow.Author.Needs.{needs}
-use Rattle.format.specs.RegisterLayout.{registerHeadAt}
-use Rattle.registers.specs.Registers.{registerFlagsAt}
 use Rattle.fields.proofs.Steps.{steps}
+use Rattle.registers.proofs.RegisterLaws.{register-laws}
 use Rattle.registers.proofs.register_head_at.Statement.{statement}
 use Rattle.registers.proofs.register_head_at.Tie as tie
 
+returns : tie.Need-returns
+returns c numbers t = search (steps, register-laws) depth 8
+
+returns-2 : tie.Need-returns-2
+returns-2 c numbers t = search (steps, register-laws) depth 8
+
+returns-3 : tie.Need-returns-3
+returns-3 c numbers t = search (steps, register-laws) depth 8
+
 pub register-head-at-spec : {M : Type 1} → statement M
-unfolding registerHeadAt registerFlagsAt
 register-head-at-spec =
     tie.close
     (tie.spec
@@ -17,6 +24,6 @@ register-head-at-spec =
     (λ c κs. search needs)
     (λ c. search needs)
     (λ c. search needs)
-    (λ c. search steps)
-    (λ c. search steps)
-    (λ c. search steps))
+    returns
+    returns-2
+    returns-3)

@@ -1,4 +1,4 @@
--- The invariant: `ids` and `total` are those of the registers so far, and those that are left decide.
+-- The invariant: `ids`, `largest` and `total` are those of the registers so far, and those that are left decide.
 use Prim.Native.Nat.{ℕ, _≤_, _<_}
 use lib.Seq.{length-take-le}
 use mathlib.Core.Bool.{true}
@@ -11,18 +11,18 @@ use Rattle.format.specs.Parsed.{rowAt}
 use Rattle.format.specs.RegisterLayout.{registerTotal, registerAt}
 use Rattle.registers.specs.Registers.{registerId}
 use Rattle.fields.specs.Views.{elementParsed}
-use Rattle.fields.proofs.RowLaws.{Elements, elements-begin, elements-next, elements-last, elements-refused}
+use Rattle.fields.proofs.RowLaws.{Elements, elements-begin, elements-told, elements-next, elements-last, elements-refused}
 use Rattle.format.proofs.RegistersAccepted.{registers-none, registers-more}
 use Rattle.registers.proofs.RegisterLaws.{register-size}
 use Rattle.registers.proofs.register_rows_at.Statement.{statement}
 use Rattle.registers.proofs.register_rows_at.Tie as tie
 
 abbrev Inv-loop : tie.InvT-loop
-Inv-loop s at n ids₀ known₀ total₀ left₀ place₀ ids known total left place =
-    (length ids ≡ 1024) × (known ≤ total) × (total ≤ 1024) × Elements (registerAt s true) registerId registerTotal (rowAt (registerAt s true) n [] at) ids known total left place
+Inv-loop s at n ids₀ known₀ largest₀ total₀ left₀ place₀ ids known largest total left place =
+    (length ids ≡ 1024) × (known ≤ total) × (total ≤ 1024) × Elements (registerAt s true) registerId registerTotal (rowAt (registerAt s true) n [] at) ids known largest total left place
 
 abbrev μ-loop : tie.MeasureT-loop
-μ-loop s at n ids₀ known₀ total₀ left₀ place₀ ids known total left place = left
+μ-loop s at n ids₀ known₀ largest₀ total₀ left₀ place₀ ids known largest total left place = left
 
 loop-holds : tie.Need-loop-holds Inv-loop μ-loop
 loop-holds c = (length-replicate {A = ℕ} 1024 0, omega arith, omega arith, elements-begin _ _ _ _ registers-none registers-more _ _ _)
@@ -43,7 +43,7 @@ array-write-ids : tie.Need-array-write-ids Inv-loop μ-loop
 array-write-ids c =
     let l = c .before .before .before .before .before .before .loop in
     let x = l .inv .3 in
-    let h = register-size _ (x .before) _ (sym (ap elementParsed (c .before .e .given .1)) ∙ c .before .before .before .register-at .ensures (x .before) (x .told) (x .counted)) in
+    let h = register-size _ (x .before) _ (sym (ap elementParsed (c .before .e .given .1)) ∙ c .before .before .before .register-at .ensures (x .before) (elements-told _ _ _ _ registers-none registers-more x) (x .counted)) in
     omega (arith, h .0, h .1, x .counted)
 
 add-total : tie.Need-add-total Inv-loop μ-loop
@@ -53,21 +53,21 @@ returns : tie.Need-returns Inv-loop μ-loop
 returns c =
     let l = c .before .before .before .before .before .before .loop in
     let x = l .inv .3 in
-    elements-refused _ _ _ _ registers-none registers-more x (sym (ap elementParsed (c .before .e2 .given .1)) ∙ c .before .before .before .register-at .ensures (x .before) (x .told) (x .counted)) (c .before .before .before .before .before .loop-test .taken)
+    elements-refused _ _ _ _ registers-none registers-more x (sym (ap elementParsed (c .before .e2 .given .1)) ∙ c .before .before .before .register-at .ensures (x .before) (elements-told _ _ _ _ registers-none registers-more x) (x .counted)) (c .before .before .before .before .before .loop-test .taken)
 
 add-known : tie.Need-add-known Inv-loop μ-loop
 add-known c = omega arith
 
 loop-again : tie.Need-loop-again Inv-loop μ-loop
 loop-again c =
-    let l = c .before .before .before .before .before .before .loop in
+    let l = c .before .before .before .before .before .before .before .loop in
     let x = l .inv .3 in
-    let h = register-size _ (x .before) _ (sym (ap elementParsed (c .before .e .given .1)) ∙ c .before .before .before .register-at .ensures (x .before) (x .told) (x .counted)) in
+    let h = register-size _ (x .before) _ (sym (ap elementParsed (c .before .before .e .given .1)) ∙ c .before .before .before .before .register-at .ensures (x .before) (elements-told _ _ _ _ registers-none registers-more x) (x .counted)) in
     let k : l .known < length (l .ids) = omega (arith, h .0, h .1, x .counted) in (
-      length-set (l .ids) (l .known) (c .before .e .given .0 .0) ∙ l .inv .0,
+      length-set (l .ids) (l .known) (c .before .before .e .given .0 .0) ∙ l .inv .0,
       omega (arith, h .0),
       omega (arith, h .1, x .counted),
-      elements-next _ _ _ _ registers-none registers-more x (sym (ap elementParsed (c .before .e .given .1)) ∙ c .before .before .before .register-at .ensures (x .before) (x .told) (x .counted)) (c .before .before .before .before .before .loop-test .taken) k,
+      elements-next _ _ _ _ registers-none registers-more x (sym (ap elementParsed (c .before .before .e .given .1)) ∙ c .before .before .before .before .register-at .ensures (x .before) (elements-told _ _ _ _ registers-none registers-more x) (x .counted)) (c .before .before .before .before .before .before .loop-test .taken) k (c .larger .ensures),
     )
 
 returns-2 : tie.Need-returns-2 Inv-loop μ-loop
@@ -86,6 +86,7 @@ register-rows-at-spec =
     (λ c. search needs)
     mul-ids
     array-write-ids
+    (λ c κs. search needs)
     (λ c. search needs)
     add-total
     (λ c. search needs)

@@ -1,5 +1,7 @@
+use mathlib.Core.List.{[]}
 use mathlib.Core.Path.{sym, _∙_, ap}
 use borrow.Author.Needs.{needs}
+use Rattle.fields.proofs.SeenLaws.{new-nothing}
 use Rattle.nodes.specs.Nodes.{nodeHeadParsed}
 use Rattle.index.specs.Rows.{wantedKind}
 use Rattle.index.proofs.Again.{node-head-is, node-head-again, not-refused}
@@ -10,11 +12,11 @@ returns : tie.Need-returns
 unfolding wantedKind
 returns c =
     λ ids h m. node-head-is _ _ ids
-    (sym (ap nodeHeadParsed (c .before .before .top .given .1)) ∙ c .before .before .before .before .node-head-at .ensures)
+    (sym (ap nodeHeadParsed (c .before .before .top .given .1)) ∙ c .before .before .before .before .node-head-at .ensures [] (new-nothing 0))
 
 returns-2 : tie.Need-returns-2
 returns-2 c =
-    λ ids h m e. not-refused (sym (ap nodeHeadParsed (c .enum-told .given .1)) ∙ c .before .before .node-head-at .ensures) (node-head-again _ _ ids e)
+    λ ids h m e. not-refused (sym (ap nodeHeadParsed (c .enum-told .given .1)) ∙ c .before .before .node-head-at .ensures [] (new-nothing 0)) (node-head-again _ _ ids e)
 
 pub head-at-spec : {M : Type 1} → statement M
 head-at-spec =
