@@ -1,6 +1,13 @@
-//! The same calls written for speed: one pass over the bytes into flat tables,
-//! without a tree. The reference beside it is written for clarity and is slow
-//! for that reason alone, so times are compared with this one.
+//! The same calls written for speed, in safe Rust with the standard library.
+//! The reference beside it is written for clarity and is slow for that reason
+//! alone, so times are compared with this one.
+//!
+//! One pass over the bytes reads the layout and looks up the registers that
+//! captures and rules name; a second one over the child entries alone finds
+//! their node instances. No tree is built: what is needed again is read from
+//! the file again.
+
+use std::num::NonZeroU32;
 
 use crate::checker::Summary;
 use crate::isolation::RECORD_BYTES;
@@ -21,27 +28,24 @@ pub fn check(file: &[u8]) -> Result<Summary, Refusal> {
     Ok(Summary {
         model: chip.model,
         registers: chip.registers,
-        register_instances: chip.register_instances.len(),
+        register_instances: chip.register_instances,
         nodes: chip.nodes,
         node_instances: chip.node_instances.len(),
-        roots: chip.roots.len(),
+        roots: chip.roots,
     })
 }
 
 /// As [`crate::address`].
 pub fn address(file: &[u8], id: u32, instance: u8) -> Result<(usize, usize), Refusal> {
     let chip = Chip::read(file, 0)?;
-    let position = if id >> 24 == 0 {
-        chip.register_names.get(name(id, instance))
-    } else {
-        None
+    let named = match id >> 24 {
+        0 => chip.register_names.get(name(id, instance)),
+        _ => None,
     };
-    let position = position.ok_or(Refusal::new(refusal::ABSENT, 0))?;
-    let instance = &chip.register_instances[position];
-    Ok((
-        instance.address_at as usize,
-        4 * usize::from(instance.register_type),
-    ))
+    named
+        .and_then(|named| chip.each_register_instance().nth(position_of(named)))
+        .map(|instance| (instance.address_at, instance.address_bytes))
+        .ok_or(Refusal::new(refusal::ABSENT, 0))
 }
 
 /// As [`crate::isolate`].
@@ -52,25 +56,27 @@ pub fn isolate(
     read: &[u8],
     list: &mut [u8],
 ) -> Result<(usize, usize), Refusal> {
-    let chip = Chip::read(file, attention_type)?;
+    let mut chip = Chip::read(file, attention_type)?;
     let root = chip.root()?;
-    let instances = chip.register_instances.len();
-    if words.len() != instances || read.len() != instances || read.iter().any(|&r| r > READ) {
+    let instances = chip.register_instances;
+    // All of them together are above 1 exactly if one is.
+    let together = read.iter().fold(0, |bits, &byte| bits | byte);
+    if words.len() != instances || read.len() != instances || together > READ {
         return Err(Refusal::new(refusal::READINGS_DO_NOT_FIT, 0));
     }
-    let mut listed = [0; MAX_NODE_INSTANCES];
-    let (records, steps) = chip.isolate_from(root, words, read, &mut listed)?;
+    let (records, steps) = chip.isolate_from(root, words, read)?;
     if list.len() / RECORD_BYTES < records {
         return Err(Refusal::new(refusal::NO_ROOM, records));
     }
-    let mut places = list.chunks_exact_mut(RECORD_BYTES);
-    chip.each_listed(&listed, |instance, bit| {
+    let (mut places, _) = list.as_chunks_mut::<RECORD_BYTES>();
+    for instance in &chip.node_instances {
+        let (own, rest) = places.split_at_mut(instance.listed.count_ones() as usize);
         let [high, low] = instance.id.to_be_bytes();
-        if let Some(place) = places.next() {
-            let record = [attention_type, bit, high, low, instance.number, 0, 0, 0];
-            place.copy_from_slice(&record);
+        for (place, bit) in own.iter_mut().zip(bits_of(instance.listed)) {
+            *place = [attention_type, bit, high, low, instance.number, 0, 0, 0];
         }
-    });
+        places = rest;
+    }
     Ok((records, steps))
 }
 
@@ -82,7 +88,7 @@ pub fn report(file: &[u8], attention_type: u8, readings_file: &[u8], text: &mut 
         let mut line = Line::new();
         line.named("refused ", u32::from(refusal.number));
         line.named(" place ", refusal.place as u32);
-        text.put(line);
+        text.put(line.ended());
     }
     text.length
 }
@@ -94,27 +100,42 @@ fn report_to(
     readings_file: &[u8],
     text: &mut Text<'_>,
 ) -> Result<(), Refusal> {
-    let chip = Chip::read(file, attention_type)?;
+    let mut chip = Chip::read(file, attention_type)?;
     let root = chip.root()?;
     let (words, read) = chip
         .decode(readings_file)
         .ok_or(Refusal::new(refusal::READINGS_DO_NOT_FIT, 0))?;
-    let mut listed = [0; MAX_NODE_INSTANCES];
-    let (records, steps) = chip.isolate_from(root, &words, &read, &mut listed)?;
+    let (records, steps) = chip.isolate_from(root, &words, &read)?;
     if records > LIST_RECORDS {
         return Err(Refusal::new(refusal::NO_ROOM, records));
     }
-    chip.each_listed(&listed, |instance, bit| {
-        let mut line = Line::new();
-        line.named("type ", u32::from(attention_type));
-        line.named(" node ", u32::from(instance.id));
-        line.named(" inst ", u32::from(instance.number));
-        line.named(" bit ", u32::from(bit));
-        text.put(line);
-    });
+    // The lines of one instance differ in the bit alone.
+    let mut lines = Vec::new();
+    for instance in &chip.node_instances {
+        if instance.listed == 0 {
+            continue;
+        }
+        let mut start = Line::new();
+        start.named("type ", u32::from(attention_type));
+        start.named(" node ", u32::from(instance.id));
+        start.named(" inst ", u32::from(instance.number));
+        start.put(b" bit ");
+        lines.clear();
+        lines.reserve(LINE_BYTES * instance.listed.count_ones() as usize);
+        for bit in bits_of(instance.listed) {
+            let mut line = start;
+            line.number_below_100(bit);
+            // All bytes of the line are copied, since copies of a fixed size
+            // are fast, and those behind its end are dropped.
+            let end = lines.len() + line.ended().len();
+            lines.extend_from_slice(&line.bytes);
+            lines.truncate(end);
+        }
+        text.put(&lines);
+    }
     let mut line = Line::new();
     line.named("steps ", steps as u32);
-    text.put(line);
+    text.put(line.ended());
     Ok(())
 }
 
@@ -125,10 +146,7 @@ struct Text<'a> {
 }
 
 impl Text<'_> {
-    #[inline]
-    fn put(&mut self, mut line: Line) {
-        line.put(b"\n");
-        let bytes = &line.bytes[..line.length];
+    fn put(&mut self, bytes: &[u8]) {
         let room = self.text.get_mut(self.length..).unwrap_or_default();
         let most = room.len().min(bytes.len());
         room[..most].copy_from_slice(&bytes[..most]);
@@ -136,17 +154,19 @@ impl Text<'_> {
     }
 }
 
-/// A line of four words and numbers at most: 22 letters and 40 digits.
+/// The longest line is `type 5 node 65535 inst 255 bit 63` with its end.
+const LINE_BYTES: usize = 40;
+
+#[derive(Clone, Copy)]
 struct Line {
-    bytes: [u8; 64],
+    bytes: [u8; LINE_BYTES],
     length: usize,
 }
 
 impl Line {
-    #[inline]
     fn new() -> Self {
         Line {
-            bytes: [0; 64],
+            bytes: [0; LINE_BYTES],
             length: 0,
         }
     }
@@ -158,6 +178,13 @@ impl Line {
     }
 
     #[inline]
+    fn number_below_100(&mut self, number: u8) {
+        if number >= 10 {
+            self.put(&[b'0' + number / 10]);
+        }
+        self.put(&[b'0' + number % 10]);
+    }
+
     fn named(&mut self, word: &str, number: u32) {
         self.put(word.as_bytes());
         let mut digits = [0; 10];
@@ -173,61 +200,172 @@ impl Line {
         }
         self.put(&digits[first..]);
     }
+
+    /// The line with its end.
+    #[inline]
+    fn ended(&mut self) -> &[u8] {
+        self.put(b"\n");
+        &self.bytes[..self.length]
+    }
 }
 
+/// The numbers of a word's bits, from 0 up. Bit 0 is leftmost; the word is
+/// turned round once, because the rightmost bit is the cheaper one to take.
+#[inline]
+fn bits_of(word: u64) -> impl Iterator<Item = u8> {
+    let mut left = word.reverse_bits();
+    std::iter::from_fn(move || {
+        if left == 0 {
+            return None;
+        }
+        let bit = left.trailing_zeros() as u8;
+        left &= left - 1;
+        Some(bit)
+    })
+}
+
+/// The word in which this bit alone is set.
+#[inline]
+fn mask_of(bit: u8) -> u64 {
+    1 << (HIGHEST_BIT - bit)
+}
+
+/// The name of an instance: its register or node ID and its number. In the
+/// file a register's name is 4 bytes in this order.
+#[inline]
 fn name(id: u32, instance: u8) -> u32 {
     id << 8 | u32::from(instance)
 }
 
-/// From names or IDs to positions: open addressing, never more than half full.
+/// A refusal in one word, so that it is returned in a register: the number
+/// above 24 bits of place. All places are in files of at most 65,536 bytes.
+#[derive(Clone, Copy)]
+struct Stop(NonZeroU32);
+
+impl Stop {
+    #[cold]
+    fn new(number: u8, place: usize) -> Self {
+        let packed = u32::from(number) << 24 | place as u32;
+        Stop(NonZeroU32::new(packed).expect("refusal numbers begin at 1"))
+    }
+
+    fn place(self) -> usize {
+        self.0.get() as usize & 0x00FF_FFFF
+    }
+}
+
+impl From<Stop> for Refusal {
+    fn from(stop: Stop) -> Self {
+        Refusal::new((stop.0.get() >> 24) as u8, stop.place())
+    }
+}
+
+/// From names or IDs to numbers that are not 0: open addressing, so large that
+/// about half of the places stay empty. A place has the name above the number;
+/// an empty one is 0.
 struct Names {
-    /// Name and position plus one; 0 for an empty place.
-    places: Vec<(u32, u32)>,
-    used: usize,
+    places: Vec<u64>,
+    /// Leaves as many bits of a mixed name as a place's index has.
+    shift: u32,
 }
 
 impl Names {
-    fn new() -> Self {
+    fn with_room(names: usize) -> Self {
+        let bits = (2 * names.max(4)).next_power_of_two().trailing_zeros();
         Names {
-            places: vec![(0, 0); 16],
-            used: 0,
+            places: vec![0; 1 << bits],
+            shift: 32 - bits,
         }
     }
 
-    /// Where the name stands, or the empty place for it.
-    fn place(&self, name: u32) -> usize {
+    /// Where the name stands, or the empty place for it; and what is there.
+    #[inline]
+    fn find(&self, name: u32) -> (usize, u64) {
         let mask = self.places.len() - 1;
-        let mixed = u64::from(name).wrapping_mul(0x9E37_79B9_7F4A_7C15);
-        let mut at = (mixed >> 40) as usize & mask;
-        while self.places[at].1 != 0 && self.places[at].0 != name {
+        let mut at = (name.wrapping_mul(0x9E37_79B1) >> self.shift) as usize & mask;
+        loop {
+            let there = self.places[at];
+            if there == 0 || (there >> 32) as u32 == name {
+                return (at, there);
+            }
             at = (at + 1) & mask;
         }
-        at
     }
 
-    fn get(&self, name: u32) -> Option<usize> {
-        let position = self.places[self.place(name)].1;
-        (position as usize).checked_sub(1)
+    #[inline]
+    fn get(&self, name: u32) -> Option<NonZeroU32> {
+        NonZeroU32::new(self.find(name).1 as u32)
     }
 
     /// False if the name was there already.
-    fn insert(&mut self, name: u32, position: usize) -> bool {
-        let at = self.place(name);
-        if self.places[at].1 != 0 {
-            return false;
+    #[inline]
+    fn insert(&mut self, name: u32, number: NonZeroU32) -> bool {
+        let (at, there) = self.find(name);
+        if there == 0 {
+            self.places[at] = u64::from(name) << 32 | u64::from(number.get());
         }
-        self.places[at] = (name, position as u32 + 1);
-        self.used += 1;
-        if 2 * self.used > self.places.len() {
-            let larger = vec![(0, 0); 4 * self.places.len()];
-            for old in std::mem::replace(&mut self.places, larger) {
-                if old.1 != 0 {
-                    let at = self.place(old.0);
-                    self.places[at] = old;
-                }
+        there == 0
+    }
+}
+
+/// The number that goes with an instance's name: its position plus one, above
+/// two bits for its kind.
+#[inline]
+fn numbered(position: usize, kind: u8) -> NonZeroU32 {
+    let number = (position as u32 + 1) << 2 | u32::from(kind);
+    NonZeroU32::new(number).expect("a position plus one is not 0")
+}
+
+#[inline]
+fn position_of(number: NonZeroU32) -> usize {
+    (number.get() >> 2) as usize - 1
+}
+
+#[inline]
+fn kind_of(number: NonZeroU32) -> u8 {
+    number.get() as u8 & 3
+}
+
+/// The IDs so far. One above or below them all is new; they are put into a
+/// table only when one comes that lies between.
+struct Ids {
+    lowest: u32,
+    highest: u32,
+    table: Option<Names>,
+}
+
+impl Ids {
+    fn new() -> Self {
+        Ids {
+            lowest: u32::MAX,
+            highest: 0,
+            table: None,
+        }
+    }
+
+    /// False if the ID was there already. `earlier` gives all IDs so far, and
+    /// `most` says how many there may be in the end.
+    #[inline]
+    fn insert<I: Iterator<Item = u32>>(
+        &mut self,
+        id: u32,
+        most: usize,
+        earlier: impl FnOnce() -> I,
+    ) -> bool {
+        let is_outside = id > self.highest || id < self.lowest;
+        if self.table.is_none() && is_outside {
+            self.lowest = self.lowest.min(id);
+            self.highest = self.highest.max(id);
+            return true;
+        }
+        let table = self.table.get_or_insert_with(|| {
+            let mut table = Names::with_room(most);
+            for id in earlier() {
+                table.insert(id, NonZeroU32::MIN);
             }
-        }
-        true
+            table
+        });
+        table.insert(id, NonZeroU32::MIN)
     }
 }
 
@@ -236,6 +374,7 @@ impl Names {
 struct ByteSet([u64; 4]);
 
 impl ByteSet {
+    #[inline]
     fn insert(&mut self, byte: u8) -> bool {
         let word = &mut self.0[usize::from(byte >> 6)];
         let mark = 1 << (byte & 63);
@@ -245,118 +384,108 @@ impl ByteSet {
     }
 }
 
-struct RegisterInstance {
-    name: u32,
-    address_at: u32,
-    register_type: u8,
-    readable: bool,
-}
-
-struct NodeInstance {
-    /// Offset of the number byte.
-    at: u32,
-    id: u16,
-    number: u8,
-    /// Bit t is set if there is a rule for attention type t.
-    rule_types: u8,
-    /// Offset of the wanted rule's expression, or 0.
-    rule_at: u32,
-    /// The end of its children among all.
-    children_end: u32,
-}
-
-struct Child {
-    at: u32,
-    bit: u8,
-    /// The name until all node instances are known, then the position.
-    node: u32,
-}
-
-struct Root {
-    at: u32,
-    attention_type: u8,
-    /// The name until all node instances are known, then the position.
-    position: usize,
-}
-
 struct Reader<'a> {
     file: &'a [u8],
     at: usize,
 }
 
-impl Reader<'_> {
+impl<'a> Reader<'a> {
     #[inline]
-    fn byte(&mut self) -> Result<u8, Refusal> {
+    fn byte(&mut self) -> Result<u8, Stop> {
         match self.file.get(self.at) {
             Some(&byte) => {
                 self.at += 1;
                 Ok(byte)
             }
-            None => Err(Refusal::new(refusal::FIELD_CUT_SHORT, self.at)),
+            None => self.refuse(refusal::FIELD_CUT_SHORT, 0),
         }
     }
 
     #[inline]
-    fn bytes<const N: usize>(&mut self) -> Result<[u8; N], Refusal> {
+    fn bytes<const N: usize>(&mut self) -> Result<[u8; N], Stop> {
         match self.file[self.at..].first_chunk::<N>() {
             Some(bytes) => {
                 self.at += N;
                 Ok(*bytes)
             }
-            None => Err(Refusal::new(refusal::FIELD_CUT_SHORT, self.at)),
+            None => self.refuse(refusal::FIELD_CUT_SHORT, 0),
         }
     }
 
+    /// So many records of N bytes, or as many of them as are wholly there.
     #[inline]
-    fn register_id(&mut self) -> Result<u32, Refusal> {
+    fn records<const N: usize>(&mut self, count: usize) -> &'a [[u8; N]] {
+        let (records, _) = self.file[self.at..].as_chunks::<N>();
+        let records = &records[..count.min(records.len())];
+        self.at += N * records.len();
+        records
+    }
+
+    #[inline]
+    fn register_id(&mut self) -> Result<u32, Stop> {
         let [a, b, c] = self.bytes()?;
         Ok(u32::from_be_bytes([0, a, b, c]))
     }
 
     #[inline]
-    fn node_id(&mut self) -> Result<u16, Refusal> {
+    fn node_id(&mut self) -> Result<u16, Stop> {
         Ok(u16::from_be_bytes(self.bytes()?))
+    }
+
+    /// The name of a register instance, ID and number being two fields.
+    #[inline]
+    fn register_name(&mut self) -> Result<u32, Stop> {
+        match self.records::<4>(1) {
+            [bytes] => Ok(u32::from_be_bytes(*bytes)),
+            _ => Ok(name(self.register_id()?, self.byte()?)),
+        }
     }
 
     /// Refuses the field of `size` bytes that was read last.
     #[cold]
-    fn refuse<T>(&self, number: u8, size: usize) -> Result<T, Refusal> {
-        Err(Refusal::new(number, self.at - size))
+    fn refuse<T>(&self, number: u8, size: usize) -> Result<T, Stop> {
+        Err(Stop::new(number, self.at - size))
     }
 
-    fn keyword<const N: usize>(&mut self, letters: [u8; N]) -> Result<(), Refusal> {
+    fn keyword<const N: usize>(&mut self, letters: [u8; N]) -> Result<(), Stop> {
         if self.bytes::<N>()? != letters {
             return self.refuse(refusal::WRONG_KEYWORD, N);
         }
         Ok(())
     }
 
-    fn nonzero_byte(&mut self) -> Result<u8, Refusal> {
+    #[inline]
+    fn nonzero_byte(&mut self) -> Result<u8, Stop> {
         match self.byte()? {
             0 => self.refuse(refusal::ZERO_COUNT, 1),
             count => Ok(count),
         }
     }
 
-    fn register_type(&mut self) -> Result<u8, Refusal> {
+    #[inline]
+    fn register_type(&mut self) -> Result<u8, Stop> {
         match self.byte()? {
             known @ (1 | 2) => Ok(known),
             _ => self.refuse(refusal::UNKNOWN_VALUE, 1),
         }
     }
 
-    fn attention_type(&mut self, seen: u8) -> Result<u8, Refusal> {
+    /// Bit t of `seen` is set if attention type t was there before.
+    #[inline]
+    fn attention_type(&mut self, seen: &mut u8) -> Result<u8, Stop> {
         let attention_type = self.byte()?;
         if !is_attention_type(attention_type) {
             return self.refuse(refusal::UNKNOWN_VALUE, 1);
         }
-        if seen >> attention_type & 1 != 0 {
+        if *seen >> attention_type & 1 != 0 {
             return self.refuse(refusal::DUPLICATE, 1);
         }
+        *seen |= 1 << attention_type;
         Ok(attention_type)
     }
 
-    fn at_least(&mut self, least: u8) -> Result<u8, Refusal> {
+    #[inline]
+    fn at_least(&mut self, least: u8) -> Result<u8, Stop> {
         let byte = self.byte()?;
         if byte < least {
             return self.refuse(refusal::BAD_EXPRESSION, 1);
@@ -365,291 +494,469 @@ impl Reader<'_> {
     }
 }
 
+/// A register instance of a registers section that was read before.
+struct RegisterInstance {
+    name: u32,
+    address_at: usize,
+    address_bytes: usize,
+}
+
+struct NodeInstance {
+    /// Offset of the number byte.
+    at: u32,
+    /// Offset of the wanted rule's expression, or 0.
+    rule_at: u32,
+    /// Offset of the first child entry.
+    children_at: u32,
+    /// The end of its children among all.
+    children_end: u32,
+    /// The bits that have a child.
+    with_child: u64,
+    /// The bits to list.
+    listed: u64,
+    id: u16,
+    number: u8,
+    /// Bit t is set if there is a rule for attention type t.
+    rule_types: u8,
+    reached: bool,
+}
+
+#[derive(Clone, Copy)]
+struct Child {
+    /// The position of its node instance.
+    node: u16,
+    bit: u8,
+}
+
 struct Chip<'a> {
-    reader: Reader<'a>,
+    file: &'a [u8],
     wanted: u8,
     model: u32,
     registers: usize,
-    register_instances: Vec<RegisterInstance>,
+    register_instances: usize,
+    /// The kind is the register's type, or 0 if it is not readable.
     register_names: Names,
     nodes: usize,
     node_instances: Vec<NodeInstance>,
     node_names: Names,
+    /// All children, in file order.
     children: Vec<Child>,
-    roots: Vec<Root>,
+    roots: usize,
+    /// The position of the wanted root's node instance.
+    root: Option<usize>,
     /// The first refusal 12 or 13 of a capture or an expression.
-    fault: Option<Refusal>,
+    fault: Option<Stop>,
 }
 
+/// Offset of the first register.
+const REGISTERS_AT: usize = 20;
+/// The fewest bytes of a register instance and of a register with one, and of
+/// a node instance and of a node with one.
+const REGISTER_INSTANCE_BYTES: usize = 5;
+const REGISTER_BYTES: usize = 11;
+const NODE_INSTANCE_BYTES: usize = 10;
+const NODE_BYTES: usize = 14;
+
 impl<'a> Chip<'a> {
-    /// The tables of a file that is accepted. Of the rules only those for the
-    /// wanted attention type are remembered.
+    /// What is to be known of a file that is accepted. Of the rules only those
+    /// for the wanted attention type are remembered.
     fn read(file: &'a [u8], wanted: u8) -> Result<Self, Refusal> {
         if file.len() > MAX_FILE_BYTES {
             return Err(Refusal::new(refusal::FILE_TOO_LONG, 0));
         }
+        let instances = file.len() / REGISTER_INSTANCE_BYTES + 1;
+        let node_instances = file.len() / NODE_INSTANCE_BYTES + 1;
+        let node_instances = node_instances.min(MAX_NODE_INSTANCES);
         let mut chip = Chip {
-            reader: Reader { file, at: 0 },
+            file,
             wanted,
             model: 0,
             registers: 0,
-            register_instances: Vec::new(),
-            register_names: Names::new(),
+            register_instances: 0,
+            register_names: Names::with_room(instances.min(MAX_REGISTER_INSTANCES)),
             nodes: 0,
-            node_instances: Vec::new(),
-            node_names: Names::new(),
+            node_instances: Vec::with_capacity(node_instances),
+            node_names: Names::with_room(node_instances),
             children: Vec::new(),
-            roots: Vec::new(),
+            roots: 0,
+            root: None,
             fault: None,
         };
-        chip.start()?;
-        chip.registers()?;
-        chip.nodes()?;
-        chip.roots()?;
-        if chip.reader.at < file.len() {
-            return Err(Refusal::new(refusal::BYTES_AFTER_END, chip.reader.at));
-        }
-        chip.references()?;
-        chip.cycles()?;
+        chip.read_sections()?;
         Ok(chip)
     }
 
-    fn start(&mut self) -> Result<(), Refusal> {
-        self.reader.keyword(CHIP_KEYWORD)?;
-        self.model = u32::from_be_bytes(self.reader.bytes()?);
-        if self.reader.byte()? != VERSION {
-            return self.reader.refuse(refusal::WRONG_VERSION, 1);
+    fn read_sections(&mut self) -> Result<(), Stop> {
+        let reader = &mut Reader {
+            file: self.file,
+            at: 0,
+        };
+        reader.keyword(CHIP_KEYWORD)?;
+        self.model = u32::from_be_bytes(reader.bytes()?);
+        if reader.byte()? != VERSION {
+            return reader.refuse(refusal::WRONG_VERSION, 1);
         }
-        Ok(())
+        self.read_registers(reader)?;
+        self.read_nodes(reader)?;
+        let roots = self.read_roots(reader)?;
+        if reader.at < self.file.len() {
+            return reader.refuse(refusal::BYTES_AFTER_END, 0);
+        }
+        let in_order = self.link_children()?;
+        self.link_roots(roots)?;
+        if in_order {
+            return Ok(());
+        }
+        match Cycles::first_on_one(self) {
+            Some(position) => {
+                let at = self.node_instances[position].at;
+                Err(Stop::new(refusal::CYCLE, at as usize))
+            }
+            None => Ok(()),
+        }
     }
 
-    fn registers(&mut self) -> Result<(), Refusal> {
-        self.reader.keyword(REGISTER_KEYWORD)?;
-        let count = self.reader.register_id()?;
+    fn read_registers(&mut self, reader: &mut Reader<'a>) -> Result<(), Stop> {
+        reader.keyword(REGISTER_KEYWORD)?;
+        let count = reader.register_id()? as usize;
         if count == 0 {
-            return self.reader.refuse(refusal::ZERO_COUNT, 3);
+            return reader.refuse(refusal::ZERO_COUNT, 3);
         }
-        let mut ids = Names::new();
+        let most = (self.file.len() / REGISTER_BYTES + 1).min(MAX_REGISTER_INSTANCES + 1);
+        let mut ids = Ids::new();
         for _ in 0..count {
-            let id = self.reader.register_id()?;
-            if !ids.insert(id, 0) {
-                return self.reader.refuse(refusal::DUPLICATE, 3);
+            let id = reader.register_id()?;
+            if !ids.insert(id, most, || {
+                self.each_register_instance().map(|i| i.name >> 8)
+            }) {
+                return reader.refuse(refusal::DUPLICATE, 3);
             }
-            self.register(id)?;
-        }
-        self.registers = count as usize;
-        Ok(())
-    }
-
-    fn register(&mut self, id: u32) -> Result<(), Refusal> {
-        let register_type = self.reader.register_type()?;
-        let flags = self.reader.byte()?;
-        if flags & !(READABLE | WRITABLE) != 0 {
-            return self.reader.refuse(refusal::UNKNOWN_VALUE, 1);
-        }
-        let mut numbers = ByteSet::default();
-        for _ in 0..self.reader.nonzero_byte()? {
-            let number = self.reader.byte()?;
-            let position = self.register_instances.len();
-            if position == MAX_REGISTER_INSTANCES {
-                return self.reader.refuse(refusal::TOO_MANY_INSTANCES, 1);
+            let register_type = reader.register_type()?;
+            let flags = reader.byte()?;
+            if flags & !(READABLE | WRITABLE) != 0 {
+                return reader.refuse(refusal::UNKNOWN_VALUE, 1);
             }
-            if !numbers.insert(number) {
-                return self.reader.refuse(refusal::DUPLICATE, 1);
-            }
-            let address_at = self.reader.at as u32;
-            if register_type == 1 {
-                self.reader.bytes::<4>()?;
+            let kind = if flags & READABLE != 0 {
+                register_type
             } else {
-                self.reader.bytes::<8>()?;
+                0
+            };
+            let instances = usize::from(reader.nonzero_byte()?);
+            if register_type == 1 {
+                self.read_register_instances::<5>(reader, id, kind, instances)?;
+            } else {
+                self.read_register_instances::<9>(reader, id, kind, instances)?;
             }
-            let name = name(id, number);
-            self.register_names.insert(name, position);
-            self.register_instances.push(RegisterInstance {
-                name,
-                address_at,
-                register_type,
-                readable: flags & READABLE != 0,
-            });
         }
+        self.registers = count;
         Ok(())
     }
 
-    fn nodes(&mut self) -> Result<(), Refusal> {
-        self.reader.keyword(NODE_KEYWORD)?;
-        let count = self.reader.node_id()?;
-        if count == 0 {
-            return self.reader.refuse(refusal::ZERO_COUNT, 2);
-        }
-        let mut ids = Names::new();
-        for _ in 0..count {
-            let id = self.reader.node_id()?;
-            if !ids.insert(u32::from(id), 0) {
-                return self.reader.refuse(refusal::DUPLICATE, 2);
-            }
-            let register_type = self.reader.register_type()?;
-            let mut numbers = ByteSet::default();
-            for _ in 0..self.reader.nonzero_byte()? {
-                self.node_instance(id, register_type, &mut numbers)?;
-            }
-        }
-        self.nodes = usize::from(count);
-        Ok(())
-    }
-
-    fn node_instance(
+    /// Instances of N bytes each, the number and the address.
+    #[inline]
+    fn read_register_instances<const N: usize>(
         &mut self,
+        reader: &mut Reader<'a>,
+        id: u32,
+        kind: u8,
+        count: usize,
+    ) -> Result<(), Stop> {
+        let mut numbers = ByteSet::default();
+        let at = reader.at;
+        let whole = reader.records::<N>(count);
+        for (index, record) in whole.iter().enumerate() {
+            let number = record[0];
+            self.register_instance(id, number, kind, &mut numbers)
+                .map_err(|number| Stop::new(number, at + index * N))?;
+        }
+        if whole.len() < count {
+            let at = reader.at;
+            let number = reader.byte()?;
+            self.register_instance(id, number, kind, &mut numbers)
+                .map_err(|number| Stop::new(number, at))?;
+            return reader.refuse(refusal::FIELD_CUT_SHORT, 0);
+        }
+        Ok(())
+    }
+
+    /// Counts it and puts its name into the table, or gives a refusal number.
+    #[inline]
+    fn register_instance(
+        &mut self,
+        id: u32,
+        number: u8,
+        kind: u8,
+        numbers: &mut ByteSet,
+    ) -> Result<(), u8> {
+        let position = self.register_instances;
+        if position == MAX_REGISTER_INSTANCES {
+            return Err(refusal::TOO_MANY_INSTANCES);
+        }
+        if !numbers.insert(number) {
+            return Err(refusal::DUPLICATE);
+        }
+        self.register_names
+            .insert(name(id, number), numbered(position, kind));
+        self.register_instances += 1;
+        Ok(())
+    }
+
+    /// The register instances that have been read, in file order.
+    fn each_register_instance(&self) -> impl Iterator<Item = RegisterInstance> + 'a {
+        let file = self.file;
+        let mut at = REGISTERS_AT;
+        let mut id = 0;
+        let mut address_bytes = 0;
+        let mut left = 0;
+        let one = move || {
+            if left == 0 {
+                id = u32::from_be_bytes([0, file[at], file[at + 1], file[at + 2]]);
+                address_bytes = 4 * usize::from(file[at + 3]);
+                left = file[at + 5];
+                at += 6;
+            }
+            let instance = RegisterInstance {
+                name: name(id, file[at]),
+                address_at: at + 1,
+                address_bytes,
+            };
+            left -= 1;
+            at += 1 + address_bytes;
+            instance
+        };
+        std::iter::repeat_with(one).take(self.register_instances)
+    }
+
+    fn read_nodes(&mut self, reader: &mut Reader<'a>) -> Result<(), Stop> {
+        reader.keyword(NODE_KEYWORD)?;
+        let count = usize::from(reader.node_id()?);
+        if count == 0 {
+            return reader.refuse(refusal::ZERO_COUNT, 2);
+        }
+        let most = (self.file.len() / NODE_BYTES + 1).min(MAX_NODE_INSTANCES + 1);
+        let mut ids = Ids::new();
+        for _ in 0..count {
+            let id = reader.node_id()?;
+            let earlier = || self.node_instances.iter().map(|i| u32::from(i.id));
+            if !ids.insert(u32::from(id), most, earlier) {
+                return reader.refuse(refusal::DUPLICATE, 2);
+            }
+            let register_type = reader.register_type()?;
+            let mut numbers = ByteSet::default();
+            for _ in 0..reader.nonzero_byte()? {
+                self.read_node_instance(reader, id, register_type, &mut numbers)?;
+            }
+        }
+        self.nodes = count;
+        Ok(())
+    }
+
+    fn read_node_instance(
+        &mut self,
+        reader: &mut Reader<'a>,
         id: u16,
         register_type: u8,
         numbers: &mut ByteSet,
-    ) -> Result<(), Refusal> {
-        let at = self.reader.at as u32;
-        let number = self.reader.byte()?;
+    ) -> Result<(), Stop> {
+        let at = reader.at as u32;
+        let number = reader.byte()?;
         let position = self.node_instances.len();
         if position == MAX_NODE_INSTANCES {
-            return self.reader.refuse(refusal::TOO_MANY_INSTANCES, 1);
+            return reader.refuse(refusal::TOO_MANY_INSTANCES, 1);
         }
         if !numbers.insert(number) {
-            return self.reader.refuse(refusal::DUPLICATE, 1);
+            return reader.refuse(refusal::DUPLICATE, 1);
         }
-        let captures = self.reader.byte()?;
-        let rules = self.reader.nonzero_byte()?;
-        let children = self.reader.byte()?;
+        let captures = usize::from(reader.byte()?);
+        let rules = reader.nonzero_byte()?;
+        let children = usize::from(reader.byte()?);
 
-        for _ in 0..captures {
-            let at = self.reader.at;
-            let name = name(self.reader.register_id()?, self.reader.byte()?);
-            if self.fault.is_none() && self.register_names.get(name).is_none() {
-                self.fault = Some(Refusal::new(refusal::ABSENT, at));
-            }
-        }
+        self.read_captures(reader, captures)?;
 
         let mut rule_types = 0;
         let mut rule_at = 0;
         for _ in 0..rules {
-            let attention_type = self.reader.attention_type(rule_types)?;
-            rule_types |= 1 << attention_type;
+            let attention_type = reader.attention_type(&mut rule_types)?;
             if attention_type == self.wanted {
-                rule_at = self.reader.at as u32;
+                rule_at = reader.at as u32;
             }
-            self.expression(MAX_EXPRESSION_LEVEL, register_type)?;
+            self.read_expression(reader, register_type)?;
         }
 
-        let mut bits = 0u64;
-        for _ in 0..children {
-            let at = self.reader.at as u32;
-            let bit = self.reader.byte()?;
-            if bit > HIGHEST_BIT {
-                return self.reader.refuse(refusal::BIT_TOO_HIGH, 1);
-            }
-            if bits >> bit & 1 != 0 {
-                return self.reader.refuse(refusal::DUPLICATE, 1);
-            }
-            bits |= 1 << bit;
-            let node = name(u32::from(self.reader.node_id()?), self.reader.byte()?);
-            self.children.push(Child { at, bit, node });
-        }
-
+        let children_at = reader.at as u32;
+        let with_child = read_children(reader, children)?;
+        let children_before = match self.node_instances.last() {
+            Some(last) => last.children_end,
+            None => 0,
+        };
         self.node_names
-            .insert(name(u32::from(id), number), position);
+            .insert(name(u32::from(id), number), numbered(position, 0));
         self.node_instances.push(NodeInstance {
             at,
+            rule_at,
+            children_at,
+            children_end: children_before + children as u32,
+            with_child,
+            listed: 0,
             id,
             number,
             rule_types,
-            rule_at,
-            children_end: self.children.len() as u32,
+            reached: false,
         });
         Ok(())
     }
 
-    fn expression(&mut self, levels: usize, register_type: u8) -> Result<(), Refusal> {
-        let at = self.reader.at;
-        let kind = self.reader.byte()?;
-        if levels == 0 {
-            return self.reader.refuse(refusal::BAD_EXPRESSION, 1);
+    fn read_captures(&mut self, reader: &mut Reader<'a>, count: usize) -> Result<(), Stop> {
+        let at = reader.at;
+        let whole = reader.records::<4>(count);
+        if self.fault.is_none() {
+            let names = &self.register_names;
+            let is_absent = |bytes: &[u8; 4]| names.get(u32::from_be_bytes(*bytes)).is_none();
+            if let Some(index) = whole.iter().position(is_absent) {
+                self.fault = Some(Stop::new(refusal::ABSENT, at + 4 * index));
+            }
         }
-        let operands = match kind {
-            EXPRESSION_REGISTER => {
-                let name = name(self.reader.register_id()?, self.reader.byte()?);
-                if self.fault.is_none() {
-                    self.fault = self.register_fault(name, register_type, at);
+        if whole.len() < count {
+            // One of these refuses.
+            reader.register_id()?;
+            reader.byte()?;
+        }
+        Ok(())
+    }
+
+    /// Without recursion: `open` has, for each expression around the one to
+    /// read, how many of its operands are still to be read.
+    fn read_expression(&mut self, reader: &mut Reader<'a>, register_type: u8) -> Result<(), Stop> {
+        let mut open = [0u8; MAX_EXPRESSION_LEVEL];
+        let mut around = 0;
+        loop {
+            let at = reader.at;
+            let kind = reader.byte()?;
+            if around == MAX_EXPRESSION_LEVEL {
+                return reader.refuse(refusal::BAD_EXPRESSION, 1);
+            }
+            let operands = match kind {
+                EXPRESSION_REGISTER => {
+                    let name = reader.register_name()?;
+                    self.named_by_a_rule(name, register_type, at);
+                    0
                 }
-                0
+                EXPRESSION_CONSTANT => {
+                    reader.bytes::<8>()?;
+                    0
+                }
+                EXPRESSION_AND | EXPRESSION_OR => reader.at_least(FEWEST_OPERANDS)?,
+                EXPRESSION_NOT => 1,
+                EXPRESSION_SHIFT_LEFT | EXPRESSION_SHIFT_RIGHT => {
+                    reader.at_least(1)?;
+                    1
+                }
+                _ => return reader.refuse(refusal::UNKNOWN_VALUE, 1),
+            };
+            if operands > 0 {
+                open[around] = operands;
+                around += 1;
+                continue;
             }
-            EXPRESSION_CONSTANT => {
-                self.reader.bytes::<8>()?;
-                0
+            // It is done, and with it those whose last operand it was.
+            loop {
+                if around == 0 {
+                    return Ok(());
+                }
+                open[around - 1] -= 1;
+                if open[around - 1] > 0 {
+                    break;
+                }
+                around -= 1;
             }
-            EXPRESSION_AND | EXPRESSION_OR => self.reader.at_least(FEWEST_OPERANDS)?,
-            EXPRESSION_NOT => 1,
-            EXPRESSION_SHIFT_LEFT | EXPRESSION_SHIFT_RIGHT => {
-                self.reader.at_least(1)?;
-                1
-            }
-            _ => return self.reader.refuse(refusal::UNKNOWN_VALUE, 1),
-        };
-        for _ in 0..operands {
-            self.expression(levels - 1, register_type)?;
         }
-        Ok(())
     }
 
-    fn register_fault(&self, name: u32, register_type: u8, at: usize) -> Option<Refusal> {
-        let Some(position) = self.register_names.get(name) else {
-            return Some(Refusal::new(refusal::ABSENT, at));
-        };
-        let instance = &self.register_instances[position];
-        let fits = instance.readable && instance.register_type == register_type;
-        (!fits).then(|| Refusal::new(refusal::UNFIT_REGISTER, at))
+    #[inline]
+    fn named_by_a_rule(&mut self, name: u32, register_type: u8, at: usize) {
+        let named = self.register_names.get(name);
+        let fits = named.is_some_and(|named| kind_of(named) == register_type);
+        if !fits && self.fault.is_none() {
+            let number = match named {
+                Some(_) => refusal::UNFIT_REGISTER,
+                None => refusal::ABSENT,
+            };
+            self.fault = Some(Stop::new(number, at));
+        }
     }
 
-    fn roots(&mut self) -> Result<(), Refusal> {
-        self.reader.keyword(ROOT_KEYWORD)?;
+    /// The entries of the roots.
+    fn read_roots(&mut self, reader: &mut Reader<'a>) -> Result<&'a [[u8; 4]], Stop> {
+        reader.keyword(ROOT_KEYWORD)?;
+        let count = usize::from(reader.nonzero_byte()?);
+        let at = reader.at;
         let mut seen = 0;
-        for _ in 0..self.reader.nonzero_byte()? {
-            let at = self.reader.at as u32;
-            let attention_type = self.reader.attention_type(seen)?;
-            seen |= 1 << attention_type;
-            let node = name(u32::from(self.reader.node_id()?), self.reader.byte()?);
-            self.roots.push(Root {
-                at,
-                attention_type,
-                position: node as usize,
-            });
+        for _ in 0..count {
+            reader.attention_type(&mut seen)?;
+            reader.node_id()?;
+            reader.byte()?;
         }
-        Ok(())
+        self.roots = count;
+        Ok(self.file[at..reader.at].as_chunks().0)
     }
 
-    /// From the names of children and roots to positions.
-    fn references(&mut self) -> Result<(), Refusal> {
-        for child in &mut self.children {
-            let at = child.at as usize;
-            if self.fault.is_some_and(|fault| fault.place < at) {
+    /// Finds the children's node instances. True if all of them stand behind
+    /// their parents in the file, or all before them: then there is no cycle.
+    fn link_children(&mut self) -> Result<bool, Stop> {
+        let total = self
+            .node_instances
+            .last()
+            .map_or(0, |last| last.children_end);
+        self.children.reserve_exact(total as usize);
+        let mut is_forward = true;
+        let mut is_backward = true;
+        let mut start = 0;
+        for (parent, instance) in self.node_instances.iter().enumerate() {
+            let count = (instance.children_end - start) as usize;
+            start = instance.children_end;
+            let at = instance.children_at as usize;
+            if self.fault.is_some_and(|fault| fault.place() < at) {
                 break;
             }
-            match self.node_names.get(child.node) {
-                Some(position) => child.node = position as u32,
-                None => return Err(Refusal::new(refusal::ABSENT, at)),
+            let (entries, _) = self.file[at..at + 4 * count].as_chunks::<4>();
+            for (index, &[bit, high, low, number]) in entries.iter().enumerate() {
+                let name = u32::from_be_bytes([0, high, low, number]);
+                let Some(named) = self.node_names.get(name) else {
+                    return Err(Stop::new(refusal::ABSENT, at + 4 * index));
+                };
+                let position = position_of(named);
+                is_forward &= position > parent;
+                is_backward &= position < parent;
+                let node = position as u16;
+                self.children.push(Child { node, bit });
             }
         }
-        if let Some(fault) = self.fault {
-            return Err(fault);
+        match self.fault {
+            Some(fault) => Err(fault),
+            None => Ok(is_forward | is_backward),
         }
-        for root in &mut self.roots {
-            let position = self.node_names.get(root.position as u32);
-            match position {
-                Some(position)
-                    if self.node_instances[position].rule_types >> root.attention_type & 1 != 0 =>
-                {
-                    root.position = position;
-                }
-                _ => return Err(Refusal::new(refusal::ABSENT, root.at as usize)),
+    }
+
+    /// Finds the wanted root. All roots need their rule.
+    fn link_roots(&mut self, roots: &[[u8; 4]]) -> Result<(), Stop> {
+        for (index, &[attention_type, high, low, number]) in roots.iter().enumerate() {
+            let name = u32::from_be_bytes([0, high, low, number]);
+            let position = self.node_names.get(name).map(position_of);
+            let with_rule = position.filter(|&position| {
+                self.node_instances[position].rule_types >> attention_type & 1 != 0
+            });
+            let Some(position) = with_rule else {
+                let at = self.file.len() - 4 * (roots.len() - index);
+                return Err(Stop::new(refusal::ABSENT, at));
+            };
+            if attention_type == self.wanted {
+                self.root = Some(position);
             }
         }
         Ok(())
     }
 
+    #[inline]
     fn children_of(&self, position: usize) -> &[Child] {
         let start = match position {
             0 => 0,
@@ -659,93 +966,25 @@ impl<'a> Chip<'a> {
         &self.children[start as usize..end as usize]
     }
 
-    /// Takes away instances that are nobody's child, as long as there are any.
-    /// What is left lies on a cycle or behind one.
-    fn cycles(&self) -> Result<(), Refusal> {
-        if self.children.is_empty() {
-            return Ok(());
-        }
-        let count = self.node_instances.len();
-        let mut parents = [0u32; MAX_NODE_INSTANCES];
-        for child in &self.children {
-            parents[child.node as usize] += 1;
-        }
-        let mut free = [0u16; MAX_NODE_INSTANCES];
-        let mut found = 0;
-        for (position, &number) in parents[..count].iter().enumerate() {
-            if number == 0 {
-                free[found] = position as u16;
-                found += 1;
-            }
-        }
-        let mut taken = 0;
-        while taken < found {
-            let position = usize::from(free[taken]);
-            taken += 1;
-            for child in self.children_of(position) {
-                let node = child.node as usize;
-                parents[node] -= 1;
-                if parents[node] == 0 {
-                    free[found] = node as u16;
-                    found += 1;
-                }
-            }
-        }
-        if taken == count {
-            return Ok(());
-        }
-        let mut left = (0..count).filter(|&position| parents[position] > 0);
-        match left.find(|&position| self.leads_to_itself(position)) {
-            Some(position) => Err(Refusal::new(
-                refusal::CYCLE,
-                self.node_instances[position].at as usize,
-            )),
-            None => Ok(()),
-        }
-    }
-
-    fn leads_to_itself(&self, start: usize) -> bool {
-        let mut seen = [false; MAX_NODE_INSTANCES];
-        let mut waiting = vec![start];
-        while let Some(position) = waiting.pop() {
-            for child in self.children_of(position) {
-                let node = child.node as usize;
-                if !seen[node] {
-                    seen[node] = true;
-                    waiting.push(node);
-                }
-            }
-            if seen[start] {
-                return true;
-            }
-        }
-        false
-    }
-
-    /// The position of the wanted root's node instance.
     fn root(&self) -> Result<usize, Refusal> {
         if !is_attention_type(self.wanted) {
             return Err(Refusal::new(refusal::UNKNOWN_ATTENTION, 0));
         }
-        let mut roots = self.roots.iter();
-        roots
-            .find(|root| root.attention_type == self.wanted)
-            .map(|root| root.position)
-            .ok_or(Refusal::new(refusal::NO_ROOT, 0))
+        self.root.ok_or(Refusal::new(refusal::NO_ROOT, 0))
     }
 
     /// Words and read bytes, if the readings file fits.
     fn decode(&self, readings_file: &[u8]) -> Option<(Vec<u64>, Vec<u8>)> {
-        let instances = &self.register_instances;
+        let count = self.register_instances;
         let (records, []) = readings_file.as_chunks::<16>() else {
             return None;
         };
-        if records.len() != instances.len() {
+        if records.len() != count {
             return None;
         }
-        let mut words = Vec::with_capacity(instances.len());
-        let mut read = Vec::with_capacity(instances.len());
-        for (record, instance) in records.iter().zip(instances) {
+        let mut words = Vec::with_capacity(count);
+        let mut read = Vec::with_capacity(count);
+        for (record, instance) in records.iter().zip(self.each_register_instance()) {
             let record = u128::from_be_bytes(*record);
             let word = record as u64;
             // The read byte and three zeros.
@@ -763,23 +1002,21 @@ impl<'a> Chip<'a> {
         Some((words, read))
     }
 
-    /// Puts the bits to list of each instance, which were 0, and returns how
-    /// many they are, and the steps.
+    /// Puts the bits to list of each reached instance, and returns how many
+    /// they are, and the steps.
     fn isolate_from(
-        &self,
+        &mut self,
         root: usize,
         words: &[u64],
         read: &[u8],
-        listed: &mut [u64; MAX_NODE_INSTANCES],
     ) -> Result<(usize, usize), Refusal> {
-        let mut reached = [false; MAX_NODE_INSTANCES];
         let mut waiting = [0u16; MAX_NODE_INSTANCES];
-        let mut first_unread = (MAX_NODE_INSTANCES, 0);
+        let mut first_unread: Option<(usize, usize)> = None;
         let mut records = 0;
         let mut steps = 0;
 
         waiting[0] = root as u16;
-        reached[root] = true;
+        self.node_instances[root].reached = true;
         let mut left = 1;
         while left > 0 {
             left -= 1;
@@ -792,45 +1029,35 @@ impl<'a> Chip<'a> {
             let active = match self.evaluate(&mut at, words, read) {
                 Ok(active) => active,
                 Err(place) => {
-                    first_unread = first_unread.min((position, place));
+                    let unread = (position, place);
+                    first_unread = Some(first_unread.map_or(unread, |first| first.min(unread)));
                     continue;
                 }
             };
-            let mut with_child = 0;
-            for child in self.children_of(position) {
-                let mask = 1u64 << (HIGHEST_BIT - child.bit);
-                with_child |= mask;
-                let node = child.node as usize;
-                if active & mask != 0 && !reached[node] {
-                    reached[node] = true;
-                    waiting[left] = node as u16;
+            let instance = &mut self.node_instances[position];
+            instance.listed = active & !instance.with_child;
+            records += instance.listed.count_ones() as usize;
+            if active & instance.with_child == 0 {
+                continue;
+            }
+            let end = instance.children_end as usize;
+            let start = match position {
+                0 => 0,
+                _ => self.node_instances[position - 1].children_end as usize,
+            };
+            for child in &self.children[start..end] {
+                let reached = &mut self.node_instances[usize::from(child.node)].reached;
+                if active & mask_of(child.bit) != 0 && !*reached {
+                    *reached = true;
+                    waiting[left] = child.node;
                     left += 1;
                 }
             }
-            listed[position] = active & !with_child;
-            records += listed[position].count_ones() as usize;
         }
 
-        if first_unread.0 < MAX_NODE_INSTANCES {
-            return Err(Refusal::new(refusal::REGISTER_UNREAD, first_unread.1));
-        }
-        Ok((records, steps))
-    }
-
-    /// The bits to list, instances in file order and bits from 0 up.
-    #[inline]
-    fn each_listed(
-        &self,
-        listed: &[u64; MAX_NODE_INSTANCES],
-        mut take: impl FnMut(&NodeInstance, u8),
-    ) {
-        for (instance, &bits) in self.node_instances.iter().zip(listed) {
-            let mut bits = bits;
-            while bits != 0 {
-                let bit = bits.leading_zeros() as u8;
-                bits &= !(1 << (HIGHEST_BIT - bit));
-                take(instance, bit);
-            }
+        match first_unread {
+            Some((_, place)) => Err(Refusal::new(refusal::REGISTER_UNREAD, place)),
+            None => Ok((records, steps)),
         }
     }
 
@@ -838,7 +1065,7 @@ impl<'a> Chip<'a> {
     /// place of its first unread register.
     fn evaluate(&self, at: &mut usize, words: &[u64], read: &[u8]) -> Result<u64, usize> {
         let start = *at;
-        let file = self.reader.file;
+        let file = self.file;
         match file[start] {
             EXPRESSION_REGISTER => {
                 *at = start + 5;
@@ -848,7 +1075,8 @@ impl<'a> Chip<'a> {
                     file[start + 3],
                     file[start + 4],
                 ];
-                match self.register_names.get(u32::from_be_bytes(name)) {
+                let named = self.register_names.get(u32::from_be_bytes(name));
+                match named.map(position_of) {
                     Some(position) if read[position] == READ => Ok(words[position]),
                     _ => Err(start),
                 }
@@ -890,5 +1118,110 @@ impl<'a> Chip<'a> {
                 Ok(shifted.unwrap_or(0))
             }
         }
+    }
+}
+
+/// The bits that the child entries have.
+#[inline]
+fn read_children(reader: &mut Reader<'_>, count: usize) -> Result<u64, Stop> {
+    let mut bits = 0;
+    let at = reader.at;
+    let whole = reader.records::<4>(count);
+    for (index, &[bit, ..]) in whole.iter().enumerate() {
+        bits = with_bit(bits, bit).map_err(|number| Stop::new(number, at + 4 * index))?;
+    }
+    if whole.len() < count {
+        let at = reader.at;
+        let bit = reader.byte()?;
+        with_bit(bits, bit).map_err(|number| Stop::new(number, at))?;
+        // One of these refuses.
+        reader.node_id()?;
+        reader.byte()?;
+    }
+    Ok(bits)
+}
+
+/// The bits and one more, or a refusal number.
+#[inline]
+fn with_bit(bits: u64, bit: u8) -> Result<u64, u8> {
+    if bit > HIGHEST_BIT {
+        return Err(refusal::BIT_TOO_HIGH);
+    }
+    if bits & mask_of(bit) != 0 {
+        return Err(refusal::DUPLICATE);
+    }
+    Ok(bits | mask_of(bit))
+}
+
+/// Tarjan's search: every instance and every child is looked at once, and
+/// instances that lead to each other are found together.
+struct Cycles<'a> {
+    chip: &'a Chip<'a>,
+    /// 0 before an instance is entered, then its turn, and [`CLOSED`] when all
+    /// that lead to it and are led to by it are found.
+    turns: [u16; MAX_NODE_INSTANCES],
+    entered: u16,
+    /// The instances that are entered and not closed, by turn.
+    open: Vec<u16>,
+    first: Option<usize>,
+}
+
+const CLOSED: u16 = u16::MAX;
+
+impl<'a> Cycles<'a> {
+    /// The first instance in file order that lies on a cycle.
+    fn first_on_one(chip: &'a Chip<'a>) -> Option<usize> {
+        let count = chip.node_instances.len();
+        let mut search = Cycles {
+            chip,
+            turns: [0; MAX_NODE_INSTANCES],
+            entered: 0,
+            open: Vec::with_capacity(count),
+            first: None,
+        };
+        for position in 0..count {
+            if search.turns[position] == 0 {
+                search.enter(position);
+            }
+        }
+        search.first
+    }
+
+    /// Returns the earliest turn of an open instance that this one leads to,
+    /// its own included.
+    fn enter(&mut self, position: usize) -> u16 {
+        self.entered += 1;
+        let own = self.entered;
+        self.turns[position] = own;
+        self.open.push(position as u16);
+
+        let mut earliest = own;
+        let mut leads_to_itself = false;
+        let chip = self.chip;
+        for child in chip.children_of(position) {
+            let node = usize::from(child.node);
+            leads_to_itself |= node == position;
+            let turn = match self.turns[node] {
+                0 => self.enter(node),
+                turn => turn,
+            };
+            earliest = earliest.min(turn);
+        }
+
+        if earliest == own {
+            // The open ones from this one on lead to each other.
+            let is_on_one = leads_to_itself || self.open.last() != Some(&(position as u16));
+            while let Some(closed) = self.open.pop() {
+                let closed = usize::from(closed);
+                self.turns[closed] = CLOSED;
+                if is_on_one {
+                    self.first = Some(self.first.map_or(closed, |first| first.min(closed)));
+                }
+                if closed == position {
+                    break;
+                }
+            }
+        }
+        earliest
     }
 }

@@ -1,5 +1,7 @@
-//! Files at the limits, and one beyond them. They are the same each time.
+//! Files at the limits, one beyond them, and files to measure with. They are the
+//! same each time.
 
+use crate::generate::Random;
 use crate::layout::{
     EXPRESSION_AND, EXPRESSION_NOT, EXPRESSION_OR, EXPRESSION_REGISTER, EXPRESSION_SHIFT_LEFT,
     EXPRESSION_SHIFT_RIGHT, MAX_EXPRESSION_LEVEL, MAX_FILE_BYTES, MAX_NODE_INSTANCES,
@@ -20,12 +22,17 @@ const ROOTS: [u8; 9] = *b"ROOT\x01\x03\x00\x01\x00";
 /// The start, and the register instances in registers of at most
 /// `in_a_register` instances: IDs from 1 up, instances from 0 up, type 1.
 fn start(instances: usize, in_a_register: usize) -> Vec<u8> {
-    let mut file = b"CHIPDATA\x00\x00\x00\x01\x01REGS".to_vec();
     let registers = instances.div_ceil(in_a_register);
-    file.extend(&(registers as u32).to_be_bytes()[1..]);
-    for register in 0..registers {
+    start_with(&Order::Rising.ids(registers), instances, in_a_register)
+}
+
+/// The same with these IDs.
+fn start_with(ids: &[u32], instances: usize, in_a_register: usize) -> Vec<u8> {
+    let mut file = b"CHIPDATA\x00\x00\x00\x01\x01REGS".to_vec();
+    file.extend(&(ids.len() as u32).to_be_bytes()[1..]);
+    for (register, id) in ids.iter().enumerate() {
         let count = in_a_register.min(instances - register * in_a_register);
-        file.extend(&(register as u32 + 1).to_be_bytes()[1..]);
+        file.extend(&id.to_be_bytes()[1..]);
         file.extend([1, READABLE, count as u8]);
         for number in 0..count {
             file.extend([number as u8, 0, 0, register as u8, number as u8]);
@@ -38,6 +45,31 @@ fn start(instances: usize, in_a_register: usize) -> Vec<u8> {
 fn register_name(position: usize, in_a_register: usize) -> [u8; 4] {
     let [_, a, b, c] = ((position / in_a_register) as u32 + 1).to_be_bytes();
     [a, b, c, (position % in_a_register) as u8]
+}
+
+/// The order in which the IDs from 1 up stand in a file.
+#[derive(Clone, Copy, Debug, PartialEq, Eq)]
+pub enum Order {
+    Rising,
+    Falling,
+    Shuffled,
+}
+
+impl Order {
+    fn ids(self, count: usize) -> Vec<u32> {
+        let mut ids: Vec<u32> = (1..=count as u32).collect();
+        match self {
+            Order::Rising => {}
+            Order::Falling => ids.reverse(),
+            Order::Shuffled => {
+                let mut random = Random::new(count as u64);
+                for left in (1..count).rev() {
+                    ids.swap(left, random.below(left + 1));
+                }
+            }
+        }
+        ids
+    }
 }
 
 /// What a node instance has beside its number, 0. Names of captured registers,
@@ -81,11 +113,18 @@ impl Nodes {
             .sum()
     }
 
-    fn write(&self, mut file: Vec<u8>) -> Vec<u8> {
+    /// The file with the root at the first node.
+    fn write(&self, file: Vec<u8>) -> Vec<u8> {
+        self.write_with(&Order::Rising.ids(self.instances.len()), 0, file)
+    }
+
+    /// The file with these IDs, and the root at the node of this position.
+    fn write_with(&self, ids: &[u32], root: usize, mut file: Vec<u8>) -> Vec<u8> {
+        let id_of = |position: usize| (ids[position] as u16).to_be_bytes();
         file.extend(b"NODE");
         file.extend((self.instances.len() as u16).to_be_bytes());
         for (position, instance) in self.instances.iter().enumerate() {
-            file.extend((position as u16 + 1).to_be_bytes());
+            file.extend(id_of(position));
             file.extend([1, 1, 0]);
             file.push(instance.captures.len() as u8);
             file.push(1);
@@ -95,11 +134,13 @@ impl Nodes {
             file.extend(&instance.rule);
             for &(bit, child) in &instance.children {
                 file.push(bit);
-                file.extend((child as u16 + 1).to_be_bytes());
+                file.extend(id_of(child));
                 file.push(0);
             }
         }
         file.extend(ROOTS);
+        let root_at = file.len() - 3;
+        file[root_at..root_at + 2].copy_from_slice(&id_of(root));
         file
     }
 }
@@ -175,24 +216,133 @@ fn deep_rule(position: usize, most_bytes: usize) -> Vec<u8> {
     rule
 }
 
+/// Node instances that each have a register of their own as their rule, and
+/// children at the first bits, by position.
+pub fn graph(children: &[Vec<usize>], root: usize) -> Vec<u8> {
+    let mut nodes = Nodes::plain(children.len(), |position| register_name(position, 1));
+    for (instance, children) in nodes.instances.iter_mut().zip(children) {
+        instance.children = (0..).zip(children.iter().copied()).collect();
+    }
+    let ids = Order::Rising.ids(children.len());
+    nodes.write_with(&ids, root, start(children.len(), 1))
+}
+
 /// 256 node instances, each but the last with `children` children at its first
 /// bits, all of them earlier in the file where `backward`; the root is then the
 /// last. Each has a register of its own. The next instance is among the
 /// children, so a chain may reach them all.
 pub fn children(children: usize, backward: bool) -> Vec<u8> {
-    let mut nodes = Nodes::plain(MAX_NODE_INSTANCES, |position| register_name(position, 1));
     let last = MAX_NODE_INSTANCES - 1;
-    let place = |rank: usize| if backward { last - rank } else { rank };
-    for rank in 0..last {
-        let entries = &mut nodes.instances[place(rank)].children;
-        for bit in 0..children.min(last - rank) {
-            entries.push((bit as u8, place(rank + 1 + bit)));
-        }
+    let places: Vec<usize> = match backward {
+        false => (0..=last).collect(),
+        true => (0..=last).rev().collect(),
+    };
+    graph(&row(children, &places), places[0])
+}
+
+/// The children of each place: the `children` places that follow it in the
+/// row, or as many as there are.
+fn row(children: usize, places: &[usize]) -> Vec<Vec<usize>> {
+    let mut all = vec![Vec::new(); places.len()];
+    for (rank, &place) in places.iter().enumerate() {
+        let following = &places[rank + 1..];
+        all[place] = following[..children.min(following.len())].to_vec();
     }
-    let mut file = nodes.write(start(MAX_NODE_INSTANCES, 1));
-    let root = file.len() - 3;
-    file[root..root + 2].copy_from_slice(&(place(0) as u16 + 1).to_be_bytes());
+    all
+}
+
+/// As [`children`], with parents before and behind their children.
+pub fn mixed_children(children: usize) -> Vec<u8> {
+    let places = Order::Shuffled.ids(MAX_NODE_INSTANCES);
+    let places: Vec<usize> = places.iter().map(|&place| place as usize - 1).collect();
+    graph(&row(children, &places), places[0])
+}
+
+/// As many children forward as the file holds, and the last instance has the
+/// one before it as a child: they are the only ones on a cycle.
+pub fn late_cycle() -> Vec<u8> {
+    let last = MAX_NODE_INSTANCES - 1;
+    let places: Vec<usize> = (0..=last).collect();
+    let mut children = row(MOST_CHILDREN, &places);
+    children[last].push(last - 1);
+    graph(&children, 0)
+}
+
+/// 1,024 registers of one instance, their IDs in this order; the one rule names
+/// the last of them.
+pub fn registers_in(order: Order) -> Vec<u8> {
+    let ids = order.ids(MAX_REGISTER_INSTANCES);
+    let [_, a, b, c] = ids[MAX_REGISTER_INSTANCES - 1].to_be_bytes();
+    Nodes::plain(1, |_| [a, b, c, 0]).write(start_with(&ids, ids.len(), 1))
+}
+
+/// 256 nodes of one instance, and as many registers, their IDs in this order.
+pub fn nodes_in(order: Order) -> Vec<u8> {
+    let ids = order.ids(MAX_NODE_INSTANCES);
+    let rule = |position: usize| {
+        let [_, a, b, c] = ids[position].to_be_bytes();
+        [a, b, c, 0]
+    };
+    let file = start_with(&ids, ids.len(), 1);
+    Nodes::plain(ids.len(), rule).write_with(&ids, 0, file)
+}
+
+/// [`registers_in`] whose last register has the ID of the one before it.
+pub fn late_duplicate(order: Order) -> Vec<u8> {
+    let mut file = registers_in(order);
+    let last = file_position_of_register(MAX_REGISTER_INSTANCES - 1);
+    file.copy_within(last - 11..last - 8, last);
     file
+}
+
+/// Where a register stands if all have one instance.
+fn file_position_of_register(position: usize) -> usize {
+    20 + 11 * position
+}
+
+/// [`captures`] of 65,536 bytes whose last node instance captures, as its last,
+/// a register instance that is absent.
+pub fn late_absence() -> Vec<u8> {
+    let mut file = captures(0);
+    // Behind the capture: a rule of 6 bytes, and the root.
+    let behind = file.len() - ROOTS.len() - 6;
+    file[behind - 4..behind].copy_from_slice(&[0, 0, 9, 0]);
+    file
+}
+
+/// A file of about so many bytes, at most 65,536, with some of everything: for
+/// each 256 bytes a node instance and four registers. An instance has a rule
+/// over its four registers, the next four instances as children, and captures
+/// in the rest of its bytes.
+pub fn of_size(bytes: usize) -> Vec<u8> {
+    let instances = (bytes / 256).clamp(1, MAX_NODE_INSTANCES);
+    let registers = 4 * instances;
+    let file = start(registers, 1);
+    let mut nodes = Nodes::plain(instances, |position| register_name(position, 1));
+    for (position, instance) in nodes.instances.iter_mut().enumerate() {
+        let register = |index: usize| {
+            let [a, b, c, number] = register_name(4 * position + index, 1);
+            [EXPRESSION_REGISTER, a, b, c, number]
+        };
+        // r0 | (r1 & ~r2) | r3 >> 1
+        let rule = &mut instance.rule;
+        *rule = vec![EXPRESSION_OR, 3];
+        rule.extend(register(0));
+        rule.extend([EXPRESSION_AND, 2]);
+        rule.extend(register(1));
+        rule.push(EXPRESSION_NOT);
+        rule.extend(register(2));
+        rule.extend([EXPRESSION_SHIFT_RIGHT, 1]);
+        rule.extend(register(3));
+        let following = position + 1..instances.min(position + 5);
+        instance.children = (0..).zip(following).collect();
+    }
+    let other = file.len() + 6 + nodes.bytes() + ROOTS.len();
+    for capture in 0..bytes.saturating_sub(other) / 4 {
+        let register = register_name(capture * 7 % registers, 1);
+        nodes.instances[capture % instances].captures.push(register);
+    }
+    nodes.write(file)
 }
 
 /// A file whose counts of one byte are as high as they may be: a register and a
@@ -272,6 +422,46 @@ mod tests {
         let deep = deep_expressions();
         assert!((64_000..=65_536).contains(&deep.len()), "{}", deep.len());
         assert_eq!(counts(&deep), (1_024, 256));
+    }
+
+    #[test]
+    fn files_to_measure_with() {
+        for order in [Order::Rising, Order::Falling, Order::Shuffled] {
+            assert_eq!(counts(&registers_in(order)), (1_024, 1));
+            assert_eq!(counts(&nodes_in(order)), (256, 256));
+            let place = file_position_of_register(1_023);
+            let refusal = check(&late_duplicate(order)).unwrap_err();
+            assert_eq!(refusal, Refusal::new(7, place));
+        }
+        assert_eq!(registers_in(Order::Rising), register_instances(1_024, 1));
+        assert_eq!(nodes_in(Order::Rising), node_instances(256));
+        assert_eq!(counts(&mixed_children(MOST_CHILDREN)), (256, 256));
+
+        let file = late_absence();
+        let refusal = check(&file).unwrap_err();
+        assert_eq!(refusal, Refusal::new(12, file.len() - 19));
+        let file = late_cycle();
+        let refusal = check(&file).unwrap_err();
+        assert_eq!(refusal.number, 14);
+        // The last two instances have 14 bytes each and one child each.
+        assert_eq!(refusal.place, file.len() - 9 - 2 * 18 + 4);
+    }
+
+    #[test]
+    fn sizes() {
+        for bytes in [1_024, 2_048, 4_096, 8_192, 16_384, 32_768, 65_536] {
+            let file = of_size(bytes);
+            assert!((bytes - 4..=bytes).contains(&file.len()), "{}", file.len());
+            let instances = bytes / 256;
+            assert_eq!(counts(&file), (4 * instances, instances));
+            let words = vec![0xF << 60; 4 * instances];
+            let read = vec![1; 4 * instances];
+            let mut list = vec![0; 64 * 64 * 8];
+            let answer = isolate(&file, ATTENTION_TYPE, &words, &read, &mut list);
+            // Bit 4 of all, and the bits from the missing children's up of the
+            // last four.
+            assert_eq!(answer, Ok((instances + 10, instances)));
+        }
     }
 
     #[test]

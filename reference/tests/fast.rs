@@ -1,6 +1,7 @@
 //! The fast implementation agrees with the reference.
 
-use reference::generate::{self, Case, Random, Sizes, HIGHEST_NUMBER};
+use reference::generate::{self, Case, Random, Shape, Sizes, HIGHEST_NUMBER};
+use reference::large::Order;
 use reference::{address, cases, check, fast, isolate, large, report, Accepted};
 
 fn compare_isolation(case: &Case) -> u8 {
@@ -101,4 +102,114 @@ fn addresses() {
     }
     let last = large::register_instances(1_024, 1);
     assert_eq!(fast::address(&last, 1_024, 0), address(&last, 1_024, 0));
+}
+
+/// Every cut of small files, every byte of them changed, and files that are put
+/// together from parts of two.
+#[test]
+fn cut_changed_and_joined_files() {
+    let mut random = Random::new(44);
+    let mut before = large::B1.to_vec();
+    for _ in 0..150 {
+        let shape = Shape::small(&mut random);
+        let file = generate::valid_file(&mut random, &shape).bytes;
+        for length in 0..=file.len() {
+            let cut = &file[..length];
+            assert_eq!(fast::check(cut), check(cut));
+        }
+        let mut changed = file.clone();
+        for at in 0..file.len() {
+            let byte = file[at];
+            for other in [0, 1, 2, byte ^ 0x80, byte.wrapping_add(1), random.byte()] {
+                changed[at] = other;
+                assert_eq!(fast::check(&changed), check(&changed));
+                // And cut somewhere behind the change.
+                let cut = &changed[..random.between(at, file.len())];
+                assert_eq!(fast::check(cut), check(cut));
+            }
+            changed[at] = byte;
+        }
+        for _ in 0..50 {
+            let mut joined = before[..random.below(before.len() + 1)].to_vec();
+            joined.extend(&file[random.below(file.len())..]);
+            assert_eq!(fast::check(&joined), check(&joined));
+        }
+        before = file;
+    }
+}
+
+/// Graphs with and without cycles, in every order.
+#[test]
+fn graphs() {
+    let mut random = Random::new(45);
+    let mut cyclic = 0;
+    for _ in 0..6_000 {
+        let count = random.between(1, 24);
+        let most = random.between(1, 4);
+        let order = random.below(3);
+        let children: Vec<Vec<usize>> = (0..count)
+            .map(|position| {
+                (0..random.below(most + 1))
+                    .map(|_| match (order, random.one_in(4 * count)) {
+                        (0, false) => random.between(position, count),
+                        (1, false) => random.below(position + 1).wrapping_sub(1),
+                        _ => random.below(count),
+                    })
+                    .filter(|&child| child < count)
+                    .filter(|&child| order == 2 || child != position)
+                    .collect()
+            })
+            .collect();
+        let file = large::graph(&children, random.below(count));
+        let expected = check(&file);
+        assert_eq!(fast::check(&file), expected);
+        cyclic += usize::from(expected.is_err());
+        let words: Vec<u64> = (0..count).map(|_| random.next()).collect();
+        let case = Case {
+            file,
+            attention_type: large::ATTENTION_TYPE,
+            words,
+            read: vec![1; count],
+            room: 64 * 24 * 8,
+        };
+        compare_isolation(&case);
+    }
+    assert!((1_000..5_000).contains(&cyclic), "{cyclic}");
+}
+
+/// Files with many IDs in each order, whole, cut and with a duplicate.
+#[test]
+fn orders_of_ids() {
+    let mut random = Random::new(46);
+    for order in [Order::Rising, Order::Falling, Order::Shuffled] {
+        for file in [
+            large::registers_in(order),
+            large::nodes_in(order),
+            large::late_duplicate(order),
+        ] {
+            assert_eq!(fast::check(&file), check(&file));
+            for id in [0, 1, 2, 512, 1_023, 1_024, 1_025] {
+                assert_eq!(fast::address(&file, id, 0), address(&file, id, 0));
+            }
+            for _ in 0..60 {
+                let mut file = file.clone();
+                // A register's ID becomes that of another.
+                let (to, from) = (random.below(256), random.below(256));
+                let from = 20 + 11 * from;
+                file.copy_within(from..from + 3, 20 + 11 * to);
+                if random.one_in(4) {
+                    file.truncate(random.below(file.len()));
+                }
+                assert_eq!(fast::check(&file), check(&file));
+            }
+        }
+    }
+    for file in [
+        large::mixed_children(large::MOST_CHILDREN),
+        large::late_cycle(),
+        large::late_absence(),
+        large::of_size(65_536),
+    ] {
+        assert_eq!(fast::check(&file), check(&file));
+    }
 }
