@@ -8,6 +8,7 @@
 //! the file again.
 
 use std::num::NonZeroU32;
+use std::ops::Range;
 
 use crate::checker::Summary;
 use crate::isolation::RECORD_BYTES;
@@ -37,15 +38,12 @@ pub fn check(file: &[u8]) -> Result<Summary, Refusal> {
 
 /// As [`crate::address`].
 pub fn address(file: &[u8], id: u32, instance: u8) -> Result<(usize, usize), Refusal> {
-    let chip = Chip::read(file, 0)?;
-    let named = match id >> 24 {
-        0 => chip.register_names.get(name(id, instance)),
-        _ => None,
+    let sought = match id >> 24 {
+        0 => u64::from(name(id, instance)),
+        _ => NO_NAME,
     };
-    named
-        .and_then(|named| chip.each_register_instance().nth(position_of(named)))
-        .map(|instance| (instance.address_at, instance.address_bytes))
-        .ok_or(Refusal::new(refusal::ABSENT, 0))
+    let chip = Chip::read_for(file, 0, sought)?;
+    chip.address.ok_or(Refusal::new(refusal::ABSENT, 0))
 }
 
 /// As [`crate::isolate`].
@@ -278,9 +276,42 @@ impl Names {
         }
     }
 
+    /// For many lookups in a row: what is the same in all of them need not be
+    /// fetched each time.
+    #[inline]
+    fn view(&self) -> View<'_> {
+        View {
+            places: &self.places,
+            shift: self.shift,
+        }
+    }
+
+    #[inline]
+    fn get(&self, name: u32) -> Option<NonZeroU32> {
+        self.view().get(name)
+    }
+
+    /// False if the name was there already.
+    #[inline]
+    fn insert(&mut self, name: u32, number: NonZeroU32) -> bool {
+        let (at, there) = self.view().find(name);
+        if there == 0 {
+            self.places[at] = u64::from(name) << 32 | u64::from(number.get());
+        }
+        there == 0
+    }
+}
+
+#[derive(Clone, Copy)]
+struct View<'a> {
+    places: &'a [u64],
+    shift: u32,
+}
+
+impl View<'_> {
     /// Where the name stands, or the empty place for it; and what is there.
     #[inline]
-    fn find(&self, name: u32) -> (usize, u64) {
+    fn find(self, name: u32) -> (usize, u64) {
         let mask = self.places.len() - 1;
         let mut at = (name.wrapping_mul(0x9E37_79B1) >> self.shift) as usize & mask;
         loop {
@@ -293,18 +324,8 @@ impl Names {
     }
 
     #[inline]
-    fn get(&self, name: u32) -> Option<NonZeroU32> {
+    fn get(self, name: u32) -> Option<NonZeroU32> {
         NonZeroU32::new(self.find(name).1 as u32)
-    }
-
-    /// False if the name was there already.
-    #[inline]
-    fn insert(&mut self, name: u32, number: NonZeroU32) -> bool {
-        let (at, there) = self.find(name);
-        if there == 0 {
-            self.places[at] = u64::from(name) << 32 | u64::from(number.get());
-        }
-        there == 0
     }
 }
 
@@ -494,13 +515,6 @@ impl<'a> Reader<'a> {
     }
 }
 
-/// A register instance of a registers section that was read before.
-struct RegisterInstance {
-    name: u32,
-    address_at: usize,
-    address_bytes: usize,
-}
-
 struct NodeInstance {
     /// Offset of the number byte.
     at: u32,
@@ -521,13 +535,6 @@ struct NodeInstance {
     reached: bool,
 }
 
-#[derive(Clone, Copy)]
-struct Child {
-    /// The position of its node instance.
-    node: u16,
-    bit: u8,
-}
-
 struct Chip<'a> {
     file: &'a [u8],
     wanted: u8,
@@ -536,11 +543,15 @@ struct Chip<'a> {
     register_instances: usize,
     /// The kind is the register's type, or 0 if it is not readable.
     register_names: Names,
+    /// The name of a register instance whose address is wanted, or [`NO_NAME`].
+    sought: u64,
+    /// Offset and size of its address.
+    address: Option<(usize, usize)>,
     nodes: usize,
     node_instances: Vec<NodeInstance>,
     node_names: Names,
-    /// All children, in file order.
-    children: Vec<Child>,
+    /// The positions of all children's node instances, in file order.
+    children: Vec<u16>,
     roots: usize,
     /// The position of the wanted root's node instance.
     root: Option<usize>,
@@ -548,6 +559,8 @@ struct Chip<'a> {
     fault: Option<Stop>,
 }
 
+/// Names have 32 bits, so this is none.
+const NO_NAME: u64 = u64::MAX;
 /// Offset of the first register.
 const REGISTERS_AT: usize = 20;
 /// The fewest bytes of a register instance and of a register with one, and of
@@ -561,6 +574,11 @@ impl<'a> Chip<'a> {
     /// What is to be known of a file that is accepted. Of the rules only those
     /// for the wanted attention type are remembered.
     fn read(file: &'a [u8], wanted: u8) -> Result<Self, Refusal> {
+        Self::read_for(file, wanted, NO_NAME)
+    }
+
+    /// The same, with the address of the register instance that is sought.
+    fn read_for(file: &'a [u8], wanted: u8, sought: u64) -> Result<Self, Refusal> {
         if file.len() > MAX_FILE_BYTES {
             return Err(Refusal::new(refusal::FILE_TOO_LONG, 0));
         }
@@ -574,6 +592,8 @@ impl<'a> Chip<'a> {
             registers: 0,
             register_instances: 0,
             register_names: Names::with_room(instances.min(MAX_REGISTER_INSTANCES)),
+            sought,
+            address: None,
             nodes: 0,
             node_instances: Vec::with_capacity(node_instances),
             node_names: Names::with_room(node_instances),
@@ -626,9 +646,7 @@ impl<'a> Chip<'a> {
         let mut ids = Ids::new();
         for _ in 0..count {
             let id = reader.register_id()?;
-            if !ids.insert(id, most, || {
-                self.each_register_instance().map(|i| i.name >> 8)
-            }) {
+            if !ids.insert(id, most, || self.each_register_name().map(|name| name >> 8)) {
                 return reader.refuse(refusal::DUPLICATE, 3);
             }
             let register_type = reader.register_type()?;
@@ -665,9 +683,13 @@ impl<'a> Chip<'a> {
         let at = reader.at;
         let whole = reader.records::<N>(count);
         for (index, record) in whole.iter().enumerate() {
+            let at = at + index * N;
             let number = record[0];
             self.register_instance(id, number, kind, &mut numbers)
-                .map_err(|number| Stop::new(number, at + index * N))?;
+                .map_err(|number| Stop::new(number, at))?;
+            if u64::from(name(id, number)) == self.sought {
+                self.address = Some((at + 1, N - 1));
+            }
         }
         if whole.len() < count {
             let at = reader.at;
@@ -680,7 +702,7 @@ impl<'a> Chip<'a> {
     }
 
     /// Counts it and puts its name into the table, or gives a refusal number.
-    #[inline]
+    #[inline(always)]
     fn register_instance(
         &mut self,
         id: u32,
@@ -701,30 +723,26 @@ impl<'a> Chip<'a> {
         Ok(())
     }
 
-    /// The register instances that have been read, in file order.
-    fn each_register_instance(&self) -> impl Iterator<Item = RegisterInstance> + 'a {
+    /// The names of the register instances that have been read, in file order.
+    fn each_register_name(&self) -> impl Iterator<Item = u32> + 'a {
         let file = self.file;
         let mut at = REGISTERS_AT;
         let mut id = 0;
-        let mut address_bytes = 0;
+        let mut instance_bytes = 0;
         let mut left = 0;
-        let one = move || {
+        let next_name = move || {
             if left == 0 {
                 id = u32::from_be_bytes([0, file[at], file[at + 1], file[at + 2]]);
-                address_bytes = 4 * usize::from(file[at + 3]);
+                instance_bytes = 1 + 4 * usize::from(file[at + 3]);
                 left = file[at + 5];
                 at += 6;
             }
-            let instance = RegisterInstance {
-                name: name(id, file[at]),
-                address_at: at + 1,
-                address_bytes,
-            };
+            let name = name(id, file[at]);
             left -= 1;
-            at += 1 + address_bytes;
-            instance
+            at += instance_bytes;
+            name
         };
-        std::iter::repeat_with(one).take(self.register_instances)
+        std::iter::repeat_with(next_name).take(self.register_instances)
     }
 
     fn read_nodes(&mut self, reader: &mut Reader<'a>) -> Result<(), Stop> {
@@ -902,35 +920,38 @@ impl<'a> Chip<'a> {
 
     /// Finds the children's node instances. True if all of them stand behind
     /// their parents in the file, or all before them: then there is no cycle.
+    #[inline(never)]
     fn link_children(&mut self) -> Result<bool, Stop> {
-        let total = self
-            .node_instances
-            .last()
-            .map_or(0, |last| last.children_end);
-        self.children.reserve_exact(total as usize);
+        let last = self.node_instances.last();
+        let total = last.map_or(0, |last| last.children_end);
+        let mut children = Vec::with_capacity(total as usize);
+        let names = self.node_names.view();
         let mut is_forward = true;
         let mut is_backward = true;
-        let mut start = 0;
         for (parent, instance) in self.node_instances.iter().enumerate() {
-            let count = (instance.children_end - start) as usize;
-            start = instance.children_end;
             let at = instance.children_at as usize;
             if self.fault.is_some_and(|fault| fault.place() < at) {
                 break;
             }
-            let (entries, _) = self.file[at..at + 4 * count].as_chunks::<4>();
-            for (index, &[bit, high, low, number]) in entries.iter().enumerate() {
-                let name = u32::from_be_bytes([0, high, low, number]);
-                let Some(named) = self.node_names.get(name) else {
-                    return Err(Stop::new(refusal::ABSENT, at + 4 * index));
-                };
-                let position = position_of(named);
-                is_forward &= position > parent;
-                is_backward &= position < parent;
-                let node = position as u16;
-                self.children.push(Child { node, bit });
+            let start = children.len();
+            let count = instance.children_end as usize - start;
+            if count == 0 {
+                continue;
             }
+            let (entries, _) = self.file[at..at + 4 * count].as_chunks::<4>();
+            for (index, &[_, high, low, number]) in entries.iter().enumerate() {
+                let name = u32::from_be_bytes([0, high, low, number]);
+                match names.get(name) {
+                    Some(named) => children.push(position_of(named) as u16),
+                    None => return Err(Stop::new(refusal::ABSENT, at + 4 * index)),
+                }
+            }
+            let parent = parent as u16;
+            let of_parent = children[start..].iter().copied();
+            is_forward &= of_parent.clone().fold(u16::MAX, u16::min) > parent;
+            is_backward &= of_parent.fold(0, u16::max) < parent;
         }
+        self.children = children;
         match self.fault {
             Some(fault) => Err(fault),
             None => Ok(is_forward | is_backward),
@@ -956,14 +977,14 @@ impl<'a> Chip<'a> {
         Ok(())
     }
 
+    /// The part of `children` that is of this instance.
     #[inline]
-    fn children_of(&self, position: usize) -> &[Child] {
+    fn children_of(&self, position: usize) -> Range<usize> {
         let start = match position {
             0 => 0,
             _ => self.node_instances[position - 1].children_end,
         };
-        let end = self.node_instances[position].children_end;
-        &self.children[start as usize..end as usize]
+        start as usize..self.node_instances[position].children_end as usize
     }
 
     fn root(&self) -> Result<usize, Refusal> {
@@ -984,7 +1005,7 @@ impl<'a> Chip<'a> {
         }
         let mut words = Vec::with_capacity(count);
         let mut read = Vec::with_capacity(count);
-        for (record, instance) in records.iter().zip(self.each_register_instance()) {
+        for (record, name) in records.iter().zip(self.each_register_name()) {
             let record = u128::from_be_bytes(*record);
             let word = record as u64;
             // The read byte and three zeros.
@@ -993,7 +1014,7 @@ impl<'a> Chip<'a> {
                 0x0100_0000 => true,
                 _ => false,
             };
-            if !fits || (record >> 96) as u32 != instance.name {
+            if !fits || (record >> 96) as u32 != name {
                 return None;
             }
             words.push(word);
@@ -1040,16 +1061,14 @@ impl<'a> Chip<'a> {
             if active & instance.with_child == 0 {
                 continue;
             }
-            let end = instance.children_end as usize;
-            let start = match position {
-                0 => 0,
-                _ => self.node_instances[position - 1].children_end as usize,
-            };
-            for child in &self.children[start..end] {
-                let reached = &mut self.node_instances[usize::from(child.node)].reached;
-                if active & mask_of(child.bit) != 0 && !*reached {
+            let at = instance.children_at as usize;
+            let children = &self.children[self.children_of(position)];
+            let (entries, _) = self.file[at..].as_chunks::<4>();
+            for (&child, &[bit, ..]) in children.iter().zip(entries) {
+                let reached = &mut self.node_instances[usize::from(child)].reached;
+                if active & mask_of(bit) != 0 && !*reached {
                     *reached = true;
-                    waiting[left] = child.node;
+                    waiting[left] = child;
                     left += 1;
                 }
             }
@@ -1124,33 +1143,40 @@ impl<'a> Chip<'a> {
 /// The bits that the child entries have.
 #[inline]
 fn read_children(reader: &mut Reader<'_>, count: usize) -> Result<u64, Stop> {
-    let mut bits = 0;
     let at = reader.at;
     let whole = reader.records::<4>(count);
-    for (index, &[bit, ..]) in whole.iter().enumerate() {
-        bits = with_bit(bits, bit).map_err(|number| Stop::new(number, at + 4 * index))?;
+    let mut bits = 0;
+    let mut together = 0;
+    for &[bit, ..] in whole {
+        bits |= mask_of(bit & HIGHEST_BIT);
+        together |= bit;
     }
-    if whole.len() < count {
-        let at = reader.at;
+    // As many bits as entries: none of them twice.
+    let all_fit = together <= HIGHEST_BIT && bits.count_ones() as usize == whole.len();
+    if all_fit && whole.len() == count {
+        return Ok(bits);
+    }
+    reader.at = at;
+    refuse_children(reader, count)
+}
+
+/// One field after the other, to find the first that is wrong.
+#[cold]
+fn refuse_children(reader: &mut Reader<'_>, count: usize) -> Result<u64, Stop> {
+    let mut bits = 0;
+    for _ in 0..count {
         let bit = reader.byte()?;
-        with_bit(bits, bit).map_err(|number| Stop::new(number, at))?;
-        // One of these refuses.
+        if bit > HIGHEST_BIT {
+            return reader.refuse(refusal::BIT_TOO_HIGH, 1);
+        }
+        if bits & mask_of(bit) != 0 {
+            return reader.refuse(refusal::DUPLICATE, 1);
+        }
+        bits |= mask_of(bit);
         reader.node_id()?;
         reader.byte()?;
     }
     Ok(bits)
-}
-
-/// The bits and one more, or a refusal number.
-#[inline]
-fn with_bit(bits: u64, bit: u8) -> Result<u64, u8> {
-    if bit > HIGHEST_BIT {
-        return Err(refusal::BIT_TOO_HIGH);
-    }
-    if bits & mask_of(bit) != 0 {
-        return Err(refusal::DUPLICATE);
-    }
-    Ok(bits | mask_of(bit))
 }
 
 /// Tarjan's search: every instance and every child is looked at once, and
@@ -1198,11 +1224,11 @@ impl<'a> Cycles<'a> {
         let mut earliest = own;
         let mut leads_to_itself = false;
         let chip = self.chip;
-        for child in chip.children_of(position) {
-            let node = usize::from(child.node);
-            leads_to_itself |= node == position;
-            let turn = match self.turns[node] {
-                0 => self.enter(node),
+        for &child in &chip.children[chip.children_of(position)] {
+            let child = usize::from(child);
+            leads_to_itself |= child == position;
+            let turn = match self.turns[child] {
+                0 => self.enter(child),
                 turn => turn,
             };
             earliest = earliest.min(turn);
