@@ -98,6 +98,11 @@ impl Out {
         &mut self.places[Self::AROUND..Self::AROUND + self.length]
     }
 
+    /// The first place, if there are as many as an answer has.
+    fn first(&self, needed: usize) -> Option<u64> {
+        (self.length >= needed).then(|| self.places[Self::AROUND])
+    }
+
     /// All places as they are to be after a call with this answer.
     fn expected(length: usize, answer: &[u32]) -> Vec<u64> {
         let mut out = Out::new(length);
@@ -123,6 +128,25 @@ fn same_numbers(call: &'static str, proved: &[u64], reference: &[u64]) -> Result
         call,
         proved: show(proved),
         reference: show(reference),
+    })
+}
+
+/// The number that a call returned with the one that is expected and, if `out`
+/// has places for the answer, with the first that it has there.
+fn same_returned(
+    call: &'static str,
+    returned: u64,
+    expected: u32,
+    out: Option<u64>,
+) -> Result<(), Difference> {
+    if returned == u64::from(expected) && out.is_none_or(|first| first == returned) {
+        return Ok(());
+    }
+    let noted = out.map_or(String::new(), |first| format!(", {first} in `out`"));
+    Err(Difference {
+        call,
+        proved: format!("{returned} returned{noted}"),
+        reference: expected.to_string(),
     })
 }
 
@@ -165,20 +189,28 @@ pub fn compare(case: &Case) -> Result<Outcomes, Difference> {
 
 fn compare_check(case: &Case, file: &Lent) -> Result<u8, Difference> {
     let answer = expected_of_check(check(&case.isolation.file));
-    let mut out = Out::new(case.places);
-    proved::check(file.part(), out.part());
-    let expected = Out::expected(case.places, &answer[..CHECK_PLACES]);
-    same_numbers("check", &out.places, &expected)?;
+    for places in [case.places, 0] {
+        let mut out = Out::new(places);
+        let returned = proved::check(file.part(), out.part());
+        let expected = Out::expected(places, &answer[..CHECK_PLACES]);
+        same_numbers("check", &out.places, &expected)?;
+        let first = out.first(CHECK_PLACES);
+        same_returned("what check returns", returned, answer[0], first)?;
+    }
     Ok(answer[0] as u8)
 }
 
 fn compare_address(case: &Case, file: &Lent) -> Result<u8, Difference> {
     let answer = address_of_any(&case.isolation.file, case.id, case.instance);
     let answer = expected_of_pair(answer);
-    let mut out = Out::new(case.places);
-    proved::address(file.part(), case.id, case.instance, out.part());
-    let expected = Out::expected(case.places, &answer[..ADDRESS_PLACES]);
-    same_numbers("address", &out.places, &expected)?;
+    for places in [case.places, 0] {
+        let mut out = Out::new(places);
+        let returned = proved::address(file.part(), case.id, case.instance, out.part());
+        let expected = Out::expected(places, &answer[..ADDRESS_PLACES]);
+        same_numbers("address", &out.places, &expected)?;
+        let first = out.first(ADDRESS_PLACES);
+        same_returned("what address returns", returned, answer[0], first)?;
+    }
     Ok(answer[0] as u8)
 }
 
@@ -194,21 +226,22 @@ fn compare_isolate(case: &Case, file: &Lent) -> Result<u8, Difference> {
     ));
 
     let read = Lent::new(&isolation.read);
-    let mut list = Lent::patterned(isolation.room);
-    let mut out = Out::new(case.places);
-    proved::isolate(
-        file.part(),
-        isolation.attention_type,
-        &isolation.words,
-        read.part(),
-        list.part_mut(),
-        out.part(),
-    );
-    let expected = Out::expected(case.places, &answer[..ISOLATE_PLACES]);
-    same_numbers("isolate", &out.places, &expected)?;
-    // Without places for its answer the call may as well do nothing.
-    let idle = case.places < ISOLATE_PLACES && list.bytes == Lent::patterned(isolation.room).bytes;
-    if !idle {
+    for places in [case.places, 0] {
+        let mut list = Lent::patterned(isolation.room);
+        let mut out = Out::new(places);
+        let returned = proved::isolate(
+            file.part(),
+            isolation.attention_type,
+            &isolation.words,
+            read.part(),
+            list.part_mut(),
+            out.part(),
+        );
+        let expected = Out::expected(places, &answer[..ISOLATE_PLACES]);
+        same_numbers("isolate", &out.places, &expected)?;
+        let first = out.first(ISOLATE_PLACES);
+        same_returned("what isolate returns", returned, answer[0], first)?;
+        // The list gets its records whatever places `out` has.
         same_bytes("the list after isolate", &list, &expected_list)?;
     }
     Ok(answer[0] as u8)
@@ -264,6 +297,14 @@ mod tests {
         }
         assert!(reported.iter().all(|&cases| cases > 0), "{reported:?}");
         assert!(cut >= 100, "{cut}");
+    }
+
+    #[test]
+    fn what_is_returned_is_the_number() {
+        assert_eq!(same_returned("", 7, 7, None), Ok(()));
+        assert_eq!(same_returned("", 7, 7, Some(7)), Ok(()));
+        assert!(same_returned("", 7, 6, None).is_err());
+        assert!(same_returned("", 7, 7, Some(6)).is_err());
     }
 
     #[test]

@@ -2,7 +2,8 @@
 //!
 //! Each takes any input: none has a precondition. `out` gets the answer as
 //! 64-bit numbers, the first two being the number of the refusal (0: none) and
-//! its place.
+//! its place. Check, address and isolate also return that number, whatever
+//! places `out` has.
 
 /// Number, place, model, registers, register instances, nodes, node instances
 /// and roots.
@@ -15,7 +16,7 @@ pub const ISOLATE_PLACES: usize = 4;
 pub const TEXT_BYTES: usize = 152_000;
 
 extern "C" {
-    fn lutemarble_check(file: *const u8, file_len: usize, out: *mut u64, out_len: usize);
+    fn lutemarble_check(file: *const u8, file_len: usize, out: *mut u64, out_len: usize) -> u64;
 
     fn lutemarble_address(
         file: *const u8,
@@ -24,7 +25,7 @@ extern "C" {
         instance: u8,
         out: *mut u64,
         out_len: usize,
-    );
+    ) -> u64;
 
     fn lutemarble_isolate(
         file: *const u8,
@@ -38,7 +39,7 @@ extern "C" {
         list_len: usize,
         out: *mut u64,
         out_len: usize,
-    );
+    ) -> u64;
 
     fn lutemarble_report(
         file: *const u8,
@@ -52,14 +53,14 @@ extern "C" {
 }
 
 /// An `out` of fewer than [`CHECK_PLACES`] places keeps what it has.
-pub fn check(file: &[u8], out: &mut [u64]) {
+pub fn check(file: &[u8], out: &mut [u64]) -> u64 {
     // SAFETY: the pointers and lengths are those of slices that live until the
     // call returns, and nothing else has the one that is written.
     unsafe { lutemarble_check(file.as_ptr(), file.len(), out.as_mut_ptr(), out.len()) }
 }
 
 /// An `out` of fewer than [`ADDRESS_PLACES`] places keeps what it has.
-pub fn address(file: &[u8], id: u64, instance: u8, out: &mut [u64]) {
+pub fn address(file: &[u8], id: u64, instance: u8, out: &mut [u64]) -> u64 {
     // SAFETY: as above.
     unsafe {
         lutemarble_address(
@@ -81,7 +82,7 @@ pub fn isolate(
     read: &[u8],
     list: &mut [u8],
     out: &mut [u64],
-) {
+) -> u64 {
     // SAFETY: as above; `list` and `out` are lent alone and do not overlap.
     unsafe {
         lutemarble_isolate(
