@@ -1,12 +1,17 @@
 //! Compares the time of the proved library with that of two Rust
 //! implementations of the same calls. Prints ratios of medians.
+//!
+//! Usage: bench [PART]
+//!
+//! With PART only the jobs whose names contain it.
 
 use std::hint::black_box;
 use std::time::{Duration, Instant};
 
 use compare::proved;
+use reference::large::{self, Order};
 use reference::vectors::{expected_of_check, expected_of_pair, EXPECTED};
-use reference::{fast, large, readings, Accepted, Refusal};
+use reference::{fast, readings, Accepted, Refusal};
 
 /// One measurement repeats a call for at least so long.
 const SHORTEST: Duration = Duration::from_micros(500);
@@ -46,6 +51,18 @@ fn check<'a>(name: &str, file: &'a [u8]) -> Job<'a> {
     }
 }
 
+/// A check that refuses by this number.
+fn refused_check<'a>(number: u8, name: &str, file: &'a [u8]) -> Job<'a> {
+    let refusal = reference::check(file).expect_err(name);
+    assert_eq!(refusal.number, number, "{name}");
+    check(&format!("{name}: refused by {number}"), file)
+}
+
+/// The file without its last byte.
+fn but_one(file: &[u8]) -> &[u8] {
+    &file[..file.len() - 1]
+}
+
 fn address<'a>(name: &str, file: &'a [u8], id: u32) -> Job<'a> {
     let mut out = [0; proved::ADDRESS_PLACES];
     Job {
@@ -63,7 +80,23 @@ fn address<'a>(name: &str, file: &'a [u8], id: u32) -> Job<'a> {
 
 type Isolate = fn(&[u8], u8, &[u64], &[u8], &mut [u8]) -> Result<(usize, usize), Refusal>;
 
+/// The answer is what the calls return; the lists are compared here.
 fn isolate<'a>(name: &str, file: &'a [u8], words: &'a [u64], read: &'a [u8]) -> Job<'a> {
+    let mut out = [0; proved::ISOLATE_PLACES];
+    let mut list = vec![0xEE; 16_384 * 8];
+    let mut fast_list = list.clone();
+    let mut clear_list = list.clone();
+    proved::isolate(
+        file,
+        large::ATTENTION_TYPE,
+        words,
+        read,
+        &mut list,
+        &mut out,
+    );
+    let _ = fast::isolate(file, large::ATTENTION_TYPE, words, read, &mut fast_list);
+    let _ = reference::isolate(file, large::ATTENTION_TYPE, words, read, &mut clear_list);
+    assert!(list == clear_list && fast_list == clear_list, "{name}");
     let by_rust = |isolate: Isolate| {
         let mut list = vec![0; 16_384 * 8];
         move || {
@@ -78,8 +111,6 @@ fn isolate<'a>(name: &str, file: &'a [u8], words: &'a [u64], read: &'a [u8]) -> 
             expected_of_pair(answer)
         }
     };
-    let mut out = [0; proved::ISOLATE_PLACES];
-    let mut list = vec![0; 16_384 * 8];
     Job {
         name: format!("isolation on {name}"),
         proved: Box::new(move || {
@@ -207,7 +238,7 @@ fn run(mut job: Job<'_>) -> bool {
     }
     let [proved, reference, fast] = times.each_mut().map(|times| median(times));
     println!(
-        "{:<62} {:>9.2} {:>9.2} {:>7}",
+        "{:<NAME_WIDTH$} {:>9.2} {:>9.2} {:>7}",
         job.name,
         proved / fast,
         proved / reference,
@@ -216,14 +247,39 @@ fn run(mut job: Job<'_>) -> bool {
     true
 }
 
+/// The width of the jobs' names.
+const NAME_WIDTH: usize = 66;
+
+/// Jobs of one kind, under a title.
+struct Group<'a> {
+    title: &'static str,
+    jobs: Vec<Job<'a>>,
+}
+
+/// The Rust side is to be built for plain x86-64, as the proved library is: no
+/// instructions that not all of these processors have.
+const IS_PLAIN: bool = !cfg!(any(
+    target_feature = "sse3",
+    target_feature = "popcnt",
+    target_feature = "avx",
+    target_feature = "bmi1",
+    target_feature = "lzcnt"
+));
+
 fn main() {
+    if !IS_PLAIN {
+        eprintln!("built for more than plain x86-64: build without target-cpu and target-feature");
+        std::process::exit(1);
+    }
+    let part = std::env::args().nth(1).unwrap_or_default();
+
     println!("Ratios of median times: the proved library's by that of ordinary fast Rust, and by");
     println!("that of the clear reference. All calls of a job are taken in turn in one run.");
     println!("No buffer is cleared before a call: each call meets the list and the answer of the");
     println!("one before it. The list has room for 16,384 records, the text for 152,000 bytes.");
     println!();
     println!(
-        "{:<62} {:>9} {:>9} {:>7}",
+        "{:<NAME_WIDTH$} {:>9} {:>9} {:>7}",
         "job", "to fast", "to clear", "rounds"
     );
 
@@ -236,6 +292,7 @@ fn main() {
     let backward_row = large::children(1, true);
     let forward = large::children(large::MOST_CHILDREN, false);
     let backward = large::children(large::MOST_CHILDREN, true);
+    let mixed = large::mixed_children(large::MOST_CHILDREN);
     let top_bit = [1u64 << 63; 1_024];
     let all_bits = [u64::MAX; 1_024];
     let read = [1u8; 1_024];
@@ -244,7 +301,7 @@ fn main() {
     let b1_readings = readings_file(&large::B1, top_bit[0]);
     let full_readings = readings_file(&full, all_bits[0]);
 
-    let jobs = vec![
+    let accepted = vec![
         check("a file at the limits, most of it captures", &captures),
         check("a file at the limits, deep expressions", &deep),
         isolate(
@@ -272,6 +329,12 @@ fn main() {
             &read[..256],
         ),
         isolate(
+            "a 256-instance file, 60 children each, mixed",
+            &mixed,
+            &all_bits[..256],
+            &read[..256],
+        ),
+        isolate(
             "a 256-instance file, deep expressions",
             &deep,
             &all_bits,
@@ -288,11 +351,82 @@ fn main() {
         check("a row of 256, children backward", &backward_row),
         check("256 instances, 60 children each, forward", &forward),
         check("256 instances, 60 children each, backward", &backward),
+        check("256 instances, 60 children each, mixed", &mixed),
         address("the last of 1,024 registers", &registers, 1_024),
     ];
+
+    let registers_falling = large::registers_in(Order::Falling);
+    let registers_shuffled = large::registers_in(Order::Shuffled);
+    let nodes_falling = large::nodes_in(Order::Falling);
+    let nodes_shuffled = large::nodes_in(Order::Shuffled);
+    let orders = vec![
+        check("1,024 registers, IDs falling", &registers_falling),
+        check("1,024 registers, IDs shuffled", &registers_shuffled),
+        check("256 nodes and registers, IDs falling", &nodes_falling),
+        check("256 nodes and registers, IDs shuffled", &nodes_shuffled),
+        address("ID 1,024, IDs shuffled", &registers_shuffled, 1_024),
+    ];
+
+    let duplicate = large::late_duplicate(Order::Rising);
+    let duplicate_shuffled = large::late_duplicate(Order::Shuffled);
+    let absence = large::late_absence();
+    let cycle = large::late_cycle();
+    let refused = vec![
+        refused_check(7, "1,024 registers, the last ID twice", &duplicate),
+        refused_check(7, "the same, IDs shuffled", &duplicate_shuffled),
+        refused_check(12, "captures, the last one absent", &absence),
+        refused_check(2, "captures, the last byte cut off", but_one(&captures)),
+        refused_check(2, "deep expressions, the last byte cut off", but_one(&deep)),
+        refused_check(14, "60 children each, a cycle of the last two", &cycle),
+    ];
+
+    // 1 KB, 2 KB and so on to the limit.
+    let sizes: Vec<Vec<u8>> = (10..=16).map(|power| large::of_size(1 << power)).collect();
+    let four_bits = [0xF << 60; 1_024];
+    let mut growth = Vec::new();
+    for (power, file) in sizes.iter().enumerate() {
+        growth.push(check(
+            &format!("some of everything, {} KB", 1 << power),
+            file,
+        ));
+    }
+    for (power, file) in sizes.iter().enumerate() {
+        let instances = file.len().div_ceil(256) * 4;
+        growth.push(isolate(
+            &format!("some of everything, {} KB", 1 << power),
+            file,
+            &four_bits[..instances],
+            &read[..instances],
+        ));
+    }
+
+    let groups = [
+        Group {
+            title: "Accepted files",
+            jobs: accepted,
+        },
+        Group {
+            title: "Orders of IDs",
+            jobs: orders,
+        },
+        Group {
+            title: "Refused files",
+            jobs: refused,
+        },
+        Group {
+            title: "Growth by size",
+            jobs: growth,
+        },
+    ];
     let mut agree = true;
-    for job in jobs {
-        agree &= run(job);
+    for mut group in groups {
+        group.jobs.retain(|job| job.name.contains(&part));
+        if !group.jobs.is_empty() {
+            println!("\n{}", group.title);
+        }
+        for job in group.jobs {
+            agree &= run(job);
+        }
     }
     if !agree {
         std::process::exit(1);
