@@ -371,7 +371,7 @@ impl Ids {
         &mut self,
         id: u32,
         most: usize,
-        earlier: impl FnOnce() -> I,
+        earlier: impl Fn() -> I,
     ) -> bool {
         let is_outside = id > self.highest || id < self.lowest;
         if self.table.is_none() && is_outside {
@@ -379,13 +379,20 @@ impl Ids {
             self.highest = self.highest.max(id);
             return true;
         }
-        let table = self.table.get_or_insert_with(|| {
-            let mut table = Names::with_room(most);
-            for id in earlier() {
-                table.insert(id, NonZeroU32::MIN);
+        let table = match &mut self.table {
+            Some(table) => table,
+            None => {
+                // One look at all of them costs less than a table.
+                if earlier().any(|other| other == id) {
+                    return false;
+                }
+                let table = self.table.insert(Names::with_room(most));
+                for other in earlier() {
+                    table.insert(other, NonZeroU32::MIN);
+                }
+                table
             }
-            table
-        });
+        };
         table.insert(id, NonZeroU32::MIN)
     }
 }
@@ -405,6 +412,9 @@ impl ByteSet {
     }
 }
 
+/// Where the file is read. The loops work on a copy of their own, which stays
+/// in registers.
+#[derive(Clone, Copy)]
 struct Reader<'a> {
     file: &'a [u8],
     at: usize,
@@ -463,7 +473,7 @@ impl<'a> Reader<'a> {
     }
 
     /// Refuses the field of `size` bytes that was read last.
-    #[cold]
+    #[inline]
     fn refuse<T>(&self, number: u8, size: usize) -> Result<T, Stop> {
         Err(Stop::new(number, self.at - size))
     }
@@ -607,7 +617,7 @@ impl<'a> Chip<'a> {
     }
 
     fn read_sections(&mut self) -> Result<(), Stop> {
-        let reader = &mut Reader {
+        let mut reader = Reader {
             file: self.file,
             at: 0,
         };
@@ -616,9 +626,9 @@ impl<'a> Chip<'a> {
         if reader.byte()? != VERSION {
             return reader.refuse(refusal::WRONG_VERSION, 1);
         }
-        self.read_registers(reader)?;
-        self.read_nodes(reader)?;
-        let roots = self.read_roots(reader)?;
+        let mut reader = self.read_registers(reader)?;
+        self.read_nodes(&mut reader)?;
+        let roots = self.read_roots(&mut reader)?;
         if reader.at < self.file.len() {
             return reader.refuse(refusal::BYTES_AFTER_END, 0);
         }
@@ -636,7 +646,7 @@ impl<'a> Chip<'a> {
         }
     }
 
-    fn read_registers(&mut self, reader: &mut Reader<'a>) -> Result<(), Stop> {
+    fn read_registers(&mut self, mut reader: Reader<'a>) -> Result<Reader<'a>, Stop> {
         reader.keyword(REGISTER_KEYWORD)?;
         let count = reader.register_id()? as usize;
         if count == 0 {
@@ -661,17 +671,17 @@ impl<'a> Chip<'a> {
             };
             let instances = usize::from(reader.nonzero_byte()?);
             if register_type == 1 {
-                self.read_register_instances::<5>(reader, id, kind, instances)?;
+                self.read_register_instances::<5>(&mut reader, id, kind, instances)?;
             } else {
-                self.read_register_instances::<9>(reader, id, kind, instances)?;
+                self.read_register_instances::<9>(&mut reader, id, kind, instances)?;
             }
         }
         self.registers = count;
-        Ok(())
+        Ok(reader)
     }
 
     /// Instances of N bytes each, the number and the address.
-    #[inline]
+    #[inline(always)]
     fn read_register_instances<const N: usize>(
         &mut self,
         reader: &mut Reader<'a>,
@@ -798,7 +808,7 @@ impl<'a> Chip<'a> {
             if attention_type == self.wanted {
                 rule_at = reader.at as u32;
             }
-            self.read_expression(reader, register_type)?;
+            *reader = self.read_expression(*reader, register_type)?;
         }
 
         let children_at = reader.at as u32;
@@ -844,7 +854,11 @@ impl<'a> Chip<'a> {
 
     /// Without recursion: `open` has, for each expression around the one to
     /// read, how many of its operands are still to be read.
-    fn read_expression(&mut self, reader: &mut Reader<'a>, register_type: u8) -> Result<(), Stop> {
+    fn read_expression(
+        &mut self,
+        mut reader: Reader<'a>,
+        register_type: u8,
+    ) -> Result<Reader<'a>, Stop> {
         let mut open = [0u8; MAX_EXPRESSION_LEVEL];
         let mut around = 0;
         loop {
@@ -879,7 +893,7 @@ impl<'a> Chip<'a> {
             // It is done, and with it those whose last operand it was.
             loop {
                 if around == 0 {
-                    return Ok(());
+                    return Ok(reader);
                 }
                 open[around - 1] -= 1;
                 if open[around - 1] > 0 {
