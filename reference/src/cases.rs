@@ -95,6 +95,7 @@ pub fn all() -> Vec<Case> {
     children(&mut cases);
     ends(&mut cases);
     references(&mut cases);
+    unreadable_captures(&mut cases);
     cycles(&mut cases);
     byte_order(&mut cases);
     accepted_shapes(&mut cases);
@@ -1060,7 +1061,7 @@ fn references(cases: &mut Cases) {
             &captured("00 00 02 05"),
             ROOTS,
         ],
-        "accepted 1 2 2 1 1 1",
+        "refused 13 56",
     );
     cases.add(
         "capture-number-of-other-register",
@@ -1085,6 +1086,20 @@ fn references(cases: &mut Cases) {
             ROOTS,
         ],
         B1_VERDICT,
+    );
+    // The same register, write-only.
+    cases.add(
+        "capture-of-other-type-write-only",
+        &[
+            START,
+            "52 45 47 53 00 00 01 00 00 01 02 40 01 00 00 00 00 10 00 00 00 01",
+            NODE,
+            COUNTS_ONE_CAPTURE,
+            "00 00 01 00",
+            "03 02 00 00 00 00 00 00 00 00",
+            ROOTS,
+        ],
+        "refused 13 49",
     );
 
     cases.expression("rule-absent-register", &["01 00 00 02 00"], "refused 12 46");
@@ -1295,6 +1310,269 @@ fn references(cases: &mut Cases) {
             "52 4F 4F 54 01 03 00 09 00",
         ],
         "refused 12 60",
+    );
+}
+
+/// Captures of registers that may not be readable. All files but the last have
+/// the registers 1/0, readable, and 2/5, mostly write-only: 42 node section,
+/// 46 count, 48 ID, 52 number, 56 what follows the counts.
+fn unreadable_captures(cases: &mut Cases) {
+    // 56 capture, 60 rule, 61 expression.
+    for (flags, verdict) in [
+        ("00", "refused 13 56"),
+        ("80", "accepted 1 2 2 1 1 1"),
+        ("C0", "accepted 1 2 2 1 1 1"),
+    ] {
+        cases.add(
+            &format!("capture-flags-{flags}"),
+            &[
+                START,
+                "52 45 47 53 00 00 02 00 00 01 01 80 01 00 00 00 10 00",
+                &format!("00 00 02 01 {flags} 01 05 00 00 20 00"),
+                NODE,
+                COUNTS_ONE_CAPTURE,
+                "00 00 02 05",
+                RULE,
+                ROOTS,
+            ],
+            verdict,
+        );
+    }
+
+    let nodes = |cases: &mut Cases, name: &str, nodes: &[&str], verdict: &str| {
+        let nodes = nodes.concat();
+        cases.add(
+            name,
+            &[START, REGISTERS_SECOND_WRITE_ONLY, &nodes, ROOTS],
+            verdict,
+        );
+    };
+    nodes(
+        cases,
+        "unused-register-write-only",
+        &[NODE, COUNTS, RULE],
+        "accepted 1 2 2 1 1 1",
+    );
+    nodes(
+        cases,
+        "capture-beside-unused-write-only",
+        &[NODE, COUNTS_ONE_CAPTURE, "00 00 01 00", RULE],
+        "accepted 1 2 2 1 1 1",
+    );
+    // The register is there and the instance is not.
+    nodes(
+        cases,
+        "12-before-13-at-one-capture",
+        &[NODE, COUNTS_ONE_CAPTURE, "00 00 02 06", RULE],
+        "refused 12 56",
+    );
+
+    // 56 first capture, 60 second capture.
+    nodes(
+        cases,
+        "capture-good-then-write-only",
+        &[NODE, "00 02 01 00", "00 00 01 00", "00 00 02 05", RULE],
+        "refused 13 60",
+    );
+    nodes(
+        cases,
+        "capture-write-only-then-absent",
+        &[NODE, "00 02 01 00", "00 00 02 05", "00 00 03 00", RULE],
+        "refused 13 56",
+    );
+    nodes(
+        cases,
+        "capture-absent-then-write-only",
+        &[NODE, "00 02 01 00", "00 00 03 00", "00 00 02 05", RULE],
+        "refused 12 56",
+    );
+
+    // 56 capture, 60 rule, 61 expression.
+    nodes(
+        cases,
+        "capture-write-only-before-rule-absent",
+        &[NODE, COUNTS_ONE_CAPTURE, "00 00 02 05", "03 01 00 00 03 00"],
+        "refused 13 56",
+    );
+    nodes(
+        cases,
+        "capture-write-only-before-rule-write-only",
+        &[NODE, COUNTS_ONE_CAPTURE, "00 00 02 05", "03 01 00 00 02 05"],
+        "refused 13 56",
+    );
+    nodes(
+        cases,
+        "capture-absent-before-rule-write-only",
+        &[NODE, COUNTS_ONE_CAPTURE, "00 00 03 00", "03 01 00 00 02 05"],
+        "refused 12 56",
+    );
+    nodes(
+        cases,
+        "capture-good-before-rule-write-only",
+        &[NODE, COUNTS_ONE_CAPTURE, "00 00 01 00", "03 01 00 00 02 05"],
+        "refused 13 61",
+    );
+    // 66 child absent, or the instance itself.
+    nodes(
+        cases,
+        "capture-write-only-before-child-absent",
+        &[NODE, "00 01 01 01", "00 00 02 05", RULE, "00 00 09 00"],
+        "refused 13 56",
+    );
+    nodes(
+        cases,
+        "capture-write-only-before-cycle",
+        &[NODE, "00 01 01 01", "00 00 02 05", RULE, "00 00 01 00"],
+        "refused 13 56",
+    );
+    // 66 root section, 71 root absent.
+    cases.add(
+        "capture-write-only-before-root-absent",
+        &[
+            START,
+            REGISTERS_SECOND_WRITE_ONLY,
+            NODE,
+            COUNTS_ONE_CAPTURE,
+            "00 00 02 05",
+            RULE,
+            "52 4F 4F 54 01 03 00 09 00",
+        ],
+        "refused 13 56",
+    );
+    // 66 root section, 71 root, 75 a byte more.
+    cases.add(
+        "trailing-byte-before-write-only-capture",
+        &[
+            START,
+            REGISTERS_SECOND_WRITE_ONLY,
+            NODE,
+            COUNTS_ONE_CAPTURE,
+            "00 00 02 05",
+            RULE,
+            ROOTS,
+            "00",
+        ],
+        "refused 11 75",
+    );
+
+    // Node 1: 52 number, 56 rule, 57 expression. Node 2, which no root
+    // reaches: 62 ID, 66 number, 70 capture.
+    let second_captures = ["00 02 01 01", COUNTS_ONE_CAPTURE, "00 00 02 05", RULE].concat();
+    nodes(
+        cases,
+        "capture-write-only-not-under-a-root",
+        &[TWO_NODES, "00 01 01 01", COUNTS, RULE, &second_captures],
+        "refused 13 70",
+    );
+    nodes(
+        cases,
+        "rule-absent-before-next-capture-write-only",
+        &[
+            TWO_NODES,
+            "00 01 01 01",
+            COUNTS,
+            "03 01 00 00 03 00",
+            &second_captures,
+        ],
+        "refused 12 57",
+    );
+    nodes(
+        cases,
+        "rule-write-only-before-next-capture-write-only",
+        &[
+            TWO_NODES,
+            "00 01 01 01",
+            COUNTS,
+            "03 01 00 00 02 05",
+            &second_captures,
+        ],
+        "refused 13 57",
+    );
+    // Node 1: 62 child. Node 2: 66 ID, 70 number, 74 capture.
+    nodes(
+        cases,
+        "capture-write-only-under-a-root",
+        &[
+            TWO_NODES,
+            "00 01 01 01",
+            COUNTS_ONE_CHILD,
+            RULE,
+            "00 00 02 00",
+            &second_captures,
+        ],
+        "refused 13 74",
+    );
+    nodes(
+        cases,
+        "child-absent-before-next-capture-write-only",
+        &[
+            TWO_NODES,
+            "00 01 01 01",
+            COUNTS_ONE_CHILD,
+            RULE,
+            "00 00 09 00",
+            &second_captures,
+        ],
+        "refused 12 62",
+    );
+    // Node 1: 56 capture, 60 rule. Node 2: 66 ID, 70 number, 74 capture, or
+    // 74 rule and 80 child.
+    nodes(
+        cases,
+        "capture-write-only-in-two-nodes",
+        &[
+            TWO_NODES,
+            "00 01 01 01",
+            COUNTS_ONE_CAPTURE,
+            "00 00 02 05",
+            RULE,
+            &second_captures,
+        ],
+        "refused 13 56",
+    );
+    nodes(
+        cases,
+        "capture-write-only-before-next-child-absent",
+        &[
+            TWO_NODES,
+            "00 01 01 01",
+            COUNTS_ONE_CAPTURE,
+            "00 00 02 05",
+            RULE,
+            "00 02 01 01",
+            COUNTS_ONE_CHILD,
+            RULE,
+            "00 00 09 00",
+        ],
+        "refused 13 56",
+    );
+    // One node with two instances: 52 number, 56 rule; 62 number, 66 capture.
+    nodes(
+        cases,
+        "capture-write-only-in-second-instance",
+        &[
+            "4E 4F 44 45 00 01 00 01 01 02",
+            COUNTS,
+            RULE,
+            "01 01 01 00",
+            "00 00 02 05",
+            RULE,
+        ],
+        "refused 13 66",
+    );
+    // B1's register, write-only: 45 capture, 50 expression.
+    cases.add(
+        "capture-and-rule-of-one-write-only",
+        &[
+            START,
+            "52 45 47 53 00 00 01 00 00 01 01 40 01 00 00 00 10 00",
+            NODE,
+            COUNTS_ONE_CAPTURE,
+            "00 00 01 00",
+            RULE,
+            ROOTS,
+        ],
+        "refused 13 45",
     );
 }
 

@@ -327,7 +327,16 @@ impl View<'_> {
     fn get(self, name: u32) -> Option<NonZeroU32> {
         NonZeroU32::new(self.find(name).1 as u32)
     }
+
+    /// The kind that goes with an instance's name, and 0 if it is not there.
+    #[inline]
+    fn kind(self, name: u32) -> u8 {
+        self.find(name).1 as u8 & KIND
+    }
 }
+
+/// The bits of a number that are the kind.
+const KIND: u8 = 3;
 
 /// The number that goes with an instance's name: its position plus one, above
 /// two bits for its kind.
@@ -344,7 +353,7 @@ fn position_of(number: NonZeroU32) -> usize {
 
 #[inline]
 fn kind_of(number: NonZeroU32) -> u8 {
-    number.get() as u8 & 3
+    number.get() as u8 & KIND
 }
 
 /// The IDs so far. One above or below them all is new; they are put into a
@@ -838,10 +847,14 @@ impl<'a> Chip<'a> {
         let at = reader.at;
         let whole = reader.records::<4>(count);
         if self.fault.is_none() {
-            let names = &self.register_names;
-            let is_absent = |bytes: &[u8; 4]| names.get(u32::from_be_bytes(*bytes)).is_none();
-            if let Some(index) = whole.iter().position(is_absent) {
-                self.fault = Some(Stop::new(refusal::ABSENT, at + 4 * index));
+            let names = self.register_names.view();
+            let is_fault = |bytes: &[u8; 4]| names.kind(u32::from_be_bytes(*bytes)) == 0;
+            if let Some(index) = whole.iter().position(is_fault) {
+                let number = match names.get(u32::from_be_bytes(whole[index])) {
+                    Some(_) => refusal::UNFIT_REGISTER,
+                    None => refusal::ABSENT,
+                };
+                self.fault = Some(Stop::new(number, at + 4 * index));
             }
         }
         if whole.len() < count {

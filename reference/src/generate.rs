@@ -4,6 +4,7 @@
 //! The same seed gives the same cases.
 
 mod aimed;
+mod captures;
 mod damage;
 mod draft;
 mod misfit;

@@ -5,7 +5,7 @@ use crate::generate::Random;
 use crate::layout::{
     EXPRESSION_AND, EXPRESSION_NOT, EXPRESSION_OR, EXPRESSION_REGISTER, EXPRESSION_SHIFT_LEFT,
     EXPRESSION_SHIFT_RIGHT, MAX_EXPRESSION_LEVEL, MAX_FILE_BYTES, MAX_NODE_INSTANCES,
-    MAX_REGISTER_INSTANCES, READABLE,
+    MAX_REGISTER_INSTANCES, READABLE, WRITABLE,
 };
 
 /// Sample B1.
@@ -163,10 +163,16 @@ pub fn node_instances(instances: usize) -> Vec<u8> {
 /// 1,024 register instances in turn.
 pub fn captures(more: usize) -> Vec<u8> {
     let file = start(MAX_REGISTER_INSTANCES, 128);
+    full_of_captures(file, MAX_REGISTER_INSTANCES, MAX_FILE_BYTES + more)
+}
+
+/// A file of so many bytes that begins with these registers, with as many
+/// captures as it holds, of the first `captured` register instances in turn.
+fn full_of_captures(file: Vec<u8>, captured: usize, bytes: usize) -> Vec<u8> {
     let mut nodes = Nodes::plain(MAX_NODE_INSTANCES, |position| register_name(position, 128));
-    let room = MAX_FILE_BYTES + more - file.len() - 6 - ROOTS.len() - nodes.bytes();
+    let room = bytes - file.len() - 6 - ROOTS.len() - nodes.bytes();
     for capture in 0..room / 4 {
-        let register = register_name(capture * 7 % MAX_REGISTER_INSTANCES, 128);
+        let register = register_name(capture * 7 % captured, 128);
         nodes.instances[capture % MAX_NODE_INSTANCES]
             .captures
             .push(register);
@@ -304,10 +310,29 @@ fn file_position_of_register(position: usize) -> usize {
 /// a register instance that is absent.
 pub fn late_absence() -> Vec<u8> {
     let mut file = captures(0);
+    capture_last(&mut file, [0, 0, 9, 0]);
+    file
+}
+
+/// As [`late_absence`], but the register is there: the last one, write-only,
+/// with the last of the 1,024 register instances.
+pub fn late_write_only() -> Vec<u8> {
+    let others = MAX_REGISTER_INSTANCES - 1;
+    let mut file = start(others, 128);
+    file[REGISTER_COUNT_AT..REGISTER_COUNT_AT + 3].copy_from_slice(&[0, 0, 9]);
+    file.extend([0, 0, 9, 1, WRITABLE, 1, 0, 0, 0, 8, 0]);
+    let mut file = full_of_captures(file, others, MAX_FILE_BYTES);
+    capture_last(&mut file, [0, 0, 9, 0]);
+    file
+}
+
+const REGISTER_COUNT_AT: usize = 17;
+
+/// The last capture of a file full of captures names this register instance.
+fn capture_last(file: &mut [u8], name: [u8; 4]) {
     // Behind the capture: a rule of 6 bytes, and the root.
     let behind = file.len() - ROOTS.len() - 6;
-    file[behind - 4..behind].copy_from_slice(&[0, 0, 9, 0]);
-    file
+    file[behind - 4..behind].copy_from_slice(&name);
 }
 
 /// A file of about so many bytes, at most 65,536, with some of everything: for
@@ -440,6 +465,15 @@ mod tests {
         let file = late_absence();
         let refusal = check(&file).unwrap_err();
         assert_eq!(refusal, Refusal::new(12, file.len() - 19));
+        let mut file = late_write_only();
+        assert_eq!(file.len(), 65_536);
+        let place = file.len() - 19;
+        assert_eq!(check(&file).unwrap_err(), Refusal::new(13, place));
+        // Register 1 instead, or an instance that is not there.
+        file[place + 2] = 1;
+        assert_eq!(counts(&file), (1_024, 256));
+        file[place + 2..place + 4].copy_from_slice(&[9, 1]);
+        assert_eq!(check(&file).unwrap_err(), Refusal::new(12, place));
         let file = late_cycle();
         let refusal = check(&file).unwrap_err();
         assert_eq!(refusal.number, 14);

@@ -1,12 +1,15 @@
-//! Refusals 12 and 13: every name stands for something in the file, and every
-//! register of a rule is readable and of the node's type.
+//! Refusals 12 and 13: every name stands for something in the file, every
+//! captured register is readable, and every register of a rule is readable and
+//! of the node's type.
 //!
 //! Captures, rules and children of each node instance, then the roots, are
 //! visited in byte order.
 
 use crate::index::Index;
 use crate::refusal::{self, Refusal};
-use crate::tree::{Expression, NodeInstance, Operation, RegisterType, Root, Tree};
+use crate::tree::{
+    Capture, Expression, NodeInstance, Operation, Register, RegisterName, RegisterType, Root, Tree,
+};
 
 pub fn check(tree: &Tree, index: &Index) -> Result<(), Refusal> {
     for instance in &tree.node_instances {
@@ -22,11 +25,24 @@ fn absent(at: usize) -> Refusal {
     Refusal::new(refusal::ABSENT, at)
 }
 
+fn unfit(at: usize) -> Refusal {
+    Refusal::new(refusal::UNFIT_REGISTER, at)
+}
+
+/// The register of a register instance that is named at this place.
+fn named_register<'a>(
+    tree: &'a Tree,
+    index: &Index,
+    name: RegisterName,
+    at: usize,
+) -> Result<&'a Register, Refusal> {
+    let position = index.register_instance(name).ok_or(absent(at))?;
+    Ok(&tree.registers[tree.register_instances[position].register])
+}
+
 fn check_node_instance(tree: &Tree, index: &Index, instance: &NodeInstance) -> Result<(), Refusal> {
     for capture in &instance.captures {
-        index
-            .register_instance(capture.register)
-            .ok_or(absent(capture.at))?;
+        check_capture(tree, index, capture)?;
     }
     let register_type = tree.nodes[instance.node].register_type;
     for rule in &instance.rules {
@@ -34,6 +50,15 @@ fn check_node_instance(tree: &Tree, index: &Index, instance: &NodeInstance) -> R
     }
     for child in &instance.children {
         index.node_instance(child.node).ok_or(absent(child.at))?;
+    }
+    Ok(())
+}
+
+/// A captured register is there and readable. Its type is not asked for.
+fn check_capture(tree: &Tree, index: &Index, capture: &Capture) -> Result<(), Refusal> {
+    let register = named_register(tree, index, capture.register, capture.at)?;
+    if !register.readable {
+        return Err(unfit(capture.at));
     }
     Ok(())
 }
@@ -46,12 +71,9 @@ fn check_expression(
 ) -> Result<(), Refusal> {
     match &expression.operation {
         Operation::Register(name) => {
-            let position = index
-                .register_instance(*name)
-                .ok_or(absent(expression.at))?;
-            let register = &tree.registers[tree.register_instances[position].register];
+            let register = named_register(tree, index, *name, expression.at)?;
             if !register.readable || register.register_type != register_type {
-                return Err(Refusal::new(refusal::UNFIT_REGISTER, expression.at));
+                return Err(unfit(expression.at));
             }
             Ok(())
         }

@@ -6,7 +6,7 @@ use std::collections::HashMap;
 use crate::checker::{self, Accepted};
 use crate::generate::{self, Case, Random, Sizes, HIGHEST_NUMBER};
 use crate::isolation::RECORD_BYTES;
-use crate::layout::MAX_FILE_BYTES;
+use crate::layout::{self, MAX_FILE_BYTES};
 use crate::readings::READ;
 use crate::refusal::{self, Refusal};
 use crate::{address, cases, check, isolate, large};
@@ -91,6 +91,14 @@ fn expected_of_refusal(refusal: Refusal) -> [u32; EXPECTED] {
 /// names no register.
 pub fn address_of_any(file: &[u8], id: u64, instance: u8) -> Result<(usize, usize), Refusal> {
     address(file, u32::try_from(id).unwrap_or(u32::MAX), instance)
+}
+
+/// Whether a capture of the file begins at the place.
+pub fn is_capture(file: &[u8], place: usize) -> bool {
+    layout::read(file).is_ok_and(|tree| {
+        let mut captures = tree.node_instances.iter().flat_map(|i| &i.captures);
+        captures.any(|capture| capture.at == place)
+    })
 }
 
 // Reading.
@@ -482,10 +490,24 @@ impl Writer {
         self.store_isolation(&case);
     }
 
+    /// The address of a captured register that is not readable, if the file is
+    /// refused for the capture.
+    fn address_of_unreadable(&mut self, file: &[u8]) {
+        let Err(refusal) = check(file) else { return };
+        if refusal.number == refusal::UNFIT_REGISTER && is_capture(file, refusal.place) {
+            let capture = &file[refusal.place..refusal.place + 4];
+            let id = capture[..3]
+                .iter()
+                .fold(0, |id, &byte| id << 8 | u64::from(byte));
+            self.store_address(file, id, capture[3]);
+        }
+    }
+
     fn checks_and_addresses(&mut self) {
         for case in cases::all() {
             if case.file.len() <= MOST_OF_A_CASE {
                 self.store_check(&case.file);
+                self.address_of_unreadable(&case.file);
             }
         }
         for number in 2..=refusal::CYCLE {

@@ -26,6 +26,15 @@ fn b1_with_expression(expression: &str) -> Vec<u8> {
     file
 }
 
+/// B1 with its register captured, these flags, and a constant as its rule.
+fn b1_captured(flags: u8) -> Vec<u8> {
+    let mut file = b1_with_expression("02 80 00 00 00 00 00 00 00");
+    file[24] = flags;
+    file[42] = 1;
+    file.splice(45..45, [0, 0, 1, 0]);
+    file
+}
+
 fn refused<T>(number: u8, place: usize) -> Result<T, Refusal> {
     Err(Refusal { number, place })
 }
@@ -135,10 +144,34 @@ fn b1_its_own_child() {
 
 #[test]
 fn refused_files_are_refused_by_isolation_and_address() {
-    for file in [Vec::new(), b1_with(12, 2), b1_with(24, 0), b1_with(59, 1)] {
+    for file in [
+        Vec::new(),
+        b1_with(12, 2),
+        b1_with(24, 0),
+        b1_with(59, 1),
+        b1_captured(0x40),
+    ] {
         let refusal = check(&file).unwrap_err();
         assert_eq!(isolated(&file, 9, 0, 9, 16), (Err(refusal), list(&[])));
         assert_eq!(address(&file, 9, 9), Err(refusal));
+    }
+}
+
+#[test]
+fn captured_registers_are_readable() {
+    for flags in [0x00, 0x40] {
+        let file = b1_captured(flags);
+        assert_eq!(check(&file), refused(13, 45));
+        assert_eq!(address(&file, 1, 0), refused(13, 45));
+        assert_eq!(isolated(&file, 3, 0, 1, 16), (refused(13, 45), list(&[])));
+    }
+    let expected = list(&[[3, 0, 0, 1, 0, 0, 0, 0]]);
+    for flags in [0x80, 0xC0] {
+        let file = b1_captured(flags);
+        assert_eq!(address(&file, 1, 0), Ok((27, 4)));
+        // It may be unread: no rule names it.
+        let answer = isolated(&file, 3, 0, 0, 16);
+        assert_eq!(answer, (Ok((1, 1)), expected.clone()));
     }
 }
 

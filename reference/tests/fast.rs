@@ -44,8 +44,26 @@ fn compare_report(random: &mut Random, case: &Case) {
 
 #[test]
 fn hand_made_cases() {
+    let mut random = Random::new(40);
     for case in cases::all() {
-        assert_eq!(fast::check(&case.file), check(&case.file), "{}", case.name);
+        let file = case.file;
+        assert_eq!(fast::check(&file), check(&file), "{}", case.name);
+        for (id, instance) in [(1, 0), (2, 5)] {
+            let expected = address(&file, id, instance);
+            let answer = fast::address(&file, id, instance);
+            assert_eq!(answer, expected, "{}", case.name);
+        }
+        let instances = check(&file).map_or(1, |summary| summary.register_instances);
+        let (words, read) = generate::readings(&mut random, instances);
+        let case = Case {
+            file,
+            attention_type: large::ATTENTION_TYPE,
+            words,
+            read,
+            room: 64 * 8,
+        };
+        compare_isolation(&case);
+        compare_report(&mut random, &case);
     }
 }
 
@@ -208,6 +226,7 @@ fn orders_of_ids() {
         large::mixed_children(large::MOST_CHILDREN),
         large::late_cycle(),
         large::late_absence(),
+        large::late_write_only(),
         large::of_size(65_536),
     ] {
         assert_eq!(fast::check(&file), check(&file));

@@ -71,6 +71,14 @@ fn refused_files() {
     assert_eq!(of_file(&b1_with(24, 0x00)), "refused 13 place 46\n");
     assert_eq!(of_file(&b1_with(24, 0x01)), "refused 6 place 24\n");
     assert_eq!(of_file(&b1_with(59, 1)), "refused 12 place 56\n");
+    // Its register is captured and write-only, and no rule names it.
+    let mut captured = b1_with_expression("02 80 00 00 00 00 00 00 00");
+    captured[24] = 0x40;
+    captured[42] = 1;
+    captured.splice(45..45, [0, 0, 1, 0]);
+    assert_eq!(of_file(&captured), "refused 13 place 45\n");
+    captured[24] = 0x80;
+    assert_eq!(of_file(&captured), "type 3 node 1 inst 0 bit 0\nsteps 1\n");
     let mut own_child = b1_with(44, 1);
     own_child.splice(51..51, [0, 0, 1, 0]);
     assert_eq!(of_file(&own_child), "refused 14 place 41\n");

@@ -1,9 +1,11 @@
 //! The vectors, read back, agree with both implementations and keep to what a
 //! reader may count on.
 
+use std::collections::BTreeMap;
+
 use reference::vectors::{
-    self, address_of_any, expected_of_check, expected_of_pair, Kind, Vector, EXPECTED, MOST_BYTES,
-    MOST_LIST_BYTES, MOST_WORDS,
+    self, address_of_any, expected_of_check, expected_of_pair, is_capture, Kind, Vector, EXPECTED,
+    MOST_BYTES, MOST_LIST_BYTES, MOST_WORDS,
 };
 use reference::{check, fast, isolate, Refusal};
 
@@ -51,6 +53,7 @@ fn vectors_agree_with_the_reference() {
         assert!(vectors.len() >= 3_000);
 
         let mut outcomes = [0; 20];
+        let mut unreadable_captures = BTreeMap::new();
         let mut largest = 0;
         for vector in &vectors {
             assert_agrees(vector);
@@ -59,9 +62,16 @@ fn vectors_agree_with_the_reference() {
             if vector.kind == Kind::Isolation {
                 outcomes[vector.expected[0] as usize] += 1;
             }
+            if vector.expected[0] == 13 && is_capture(vector.file, vector.expected[1] as usize) {
+                *unreadable_captures.entry(vector.kind).or_insert(0) += 1;
+            }
             largest = largest.max(vector.file.len());
         }
         assert!(outcomes.iter().all(|&count| count >= 40), "{outcomes:?}");
+        for kind in [Kind::Check, Kind::Address, Kind::Isolation] {
+            let captures = unreadable_captures.get(&kind);
+            assert!(captures >= Some(&12), "{unreadable_captures:?}");
+        }
         assert!(largest > 65_536);
     }
 }

@@ -94,6 +94,7 @@ acceptance s bytes c = (out, λ h. back (h .0) (h .1) (h .2))
             bits = m .bits;
             present = r .0;
             fit = r .1;
+            captures = r .2;
             acyclic = cycles-out c (q .1);
           },
         )
@@ -116,7 +117,7 @@ acceptance s bytes c = (out, λ h. back (h .0) (h .1) (h .2))
                 bits = m .bits;
               }));
           whole = omega arith;
-          faultless = none-append (references-in c (m .present) (m .fit)) (cycles-in c (m .acyclic));
+          faultless = none-append (references-in c (m .present) (m .fit) (m .captures)) (cycles-in c (m .acyclic));
         })
 
 -- The tree of an accepted file meets the rules.

@@ -1,4 +1,4 @@
--- There is no fault exactly when what is named is there, what rules name fits, and no child entries make a cycle.
+-- There is no fault exactly when what is named is there, what rules name fits, what is captured is readable, and no child entries make a cycle.
 use Prim.Native.Nat.{ℕ, zero, suc, _+_, _-_, _≤_, _<_}
 use mathlib.Core.Bool.{Bool, true, false, not, _&&_}
 use mathlib.Core.List.{List, [], _∷_, _++_}
@@ -11,11 +11,12 @@ use borrow.Author.Tests.{ltb-true, ltb-false, not-true}
 use Rattle.numbers.proofs.Bools.{either, clash}
 use Rattle.graph.specs.Paths.{Path, one, more, Inside, onCycle}
 use Rattle.graph.proofs.PathsLaws.{cycle-law}
-use Rattle.format.specs.Tree.{Chip}
-use Rattle.format.specs.Lookup.{some, at, gathered, registerEntries, registerNamed, NodeEntry, nodeEntries}
-use Rattle.format.specs.References.{Named, namedBy, unless, fits, hasRegister, hasNode, captureFaults, namedFaults, ruleFaults, childFaults, instanceFaults, rootFaults, referenceFaults}
+use Rattle.format.specs.Tree.{Capture, Chip}
+use Rattle.format.specs.Fields.{readable}
+use Rattle.format.specs.Lookup.{some, at, gathered, RegisterEntry, registerEntries, registerNamed, NodeEntry, nodeEntries}
+use Rattle.format.specs.References.{Named, namedBy, unless, fits, hasRegister, hasRegisterThat, registerFaults, hasNode, captureFaults, namedFaults, ruleFaults, childFaults, instanceFaults, rootFaults, referenceFaults}
 use Rattle.format.specs.Cycles.{leads, childEdge, OnCycle, cyclesFrom, cycleFaults}
-use Rattle.format.specs.Rules.{Every, allCaptures, allRules, allChildren, NamesPresent, RegistersFit}
+use Rattle.format.specs.Rules.{Every, allCaptures, allRules, allChildren, NamesPresent, RegistersFit, CapturesReadable}
 use Rattle.format.proofs.EveryLaws.{every-map, every-both, every-gathered-out, every-gathered-in}
 
 -- Lists of faults that are empty
@@ -50,75 +51,92 @@ none-unless ok n p e = rw e
 -- References
 
 module _ (c : Chip) where
-  -- What is asked of a register that a rule of a node of this type names.
+  -- What is asked of a register that is named: that it is there, and then that it is as asked.
+  abbrev That : (RegisterEntry → Bool) → ℕ → ℕ → Type 0
+  That asked id number = some (λ x. registerNamed id number x && asked x) (registerEntries c) ≡ true
+
+  module _ (asked : RegisterEntry → Bool) (id number place : ℕ) where
+    register-out : registerFaults c asked id number place ≡ [] → (hasRegister c id number ≡ true) × That asked id number
+    unfolding registerFaults hasRegisterThat
+    register-out e = let r = append-none _ _ e in (unless-none _ _ _ (r .0), unless-none _ _ _ (r .1))
+
+    register-in : (hasRegister c id number ≡ true) × That asked id number → registerFaults c asked id number place ≡ []
+    unfolding registerFaults hasRegisterThat
+    register-in h = none-append (none-unless _ _ _ (h .0)) (none-unless _ _ _ (h .1))
+
   abbrev Present : Named → Type 0
   Present n = hasRegister c (n .id) (n .number) ≡ true
 
   abbrev Fits : ℕ → Named → Type 0
-  Fits type n = some (λ x. registerNamed (n .id) (n .number) x && fits type x) (registerEntries c) ≡ true
+  Fits type n = That (fits type) (n .id) (n .number)
 
-  named-out : (type : ℕ) (n : Named) → namedFaults c type n ≡ [] → Present n × Fits type n
-  unfolding namedFaults
-  named-out type n e = let r = append-none _ _ e in (unless-none _ _ _ (r .0), unless-none _ _ _ (r .1))
+  abbrev Captured : Capture → Type 0
+  Captured k = hasRegister c (k .id) (k .number) ≡ true
 
-  named-in : (type : ℕ) (n : Named) → Present n × Fits type n → namedFaults c type n ≡ []
-  unfolding namedFaults
-  named-in type n h = none-append (none-unless _ _ _ (h .0)) (none-unless _ _ _ (h .1))
+  abbrev Readable : Capture → Type 0
+  Readable k = That (λ x. readable (x .flags)) (k .id) (k .number)
 
   -- What is asked of a node instance.
   record EntryGood (e : NodeEntry) : Type 0 where
-    pub captures : Every (λ k. hasRegister c (k .id) (k .number) ≡ true) (e .instance .captures)
+    pub captured : Every Captured (e .instance .captures)
+    pub readable : Every Readable (e .instance .captures)
     pub present : Every (λ r. Every Present (namedBy (r .expression))) (e .instance .rules)
     pub fit : Every (λ r. Every (Fits (e .type)) (namedBy (r .expression))) (e .instance .rules)
     pub children : Every (λ k. hasNode c (k .id) (k .number) ≡ true) (e .instance .children)
 
   entry-out : (e : NodeEntry) → instanceFaults c e ≡ [] → EntryGood e
-  unfolding instanceFaults captureFaults ruleFaults childFaults
+  unfolding instanceFaults captureFaults ruleFaults namedFaults childFaults
   entry-out e h =
       let a = append-none _ _ h in
       let b = append-none _ _ (a .1) in
+      let caught : Every (λ k. Captured k × Readable k) (e .instance .captures) =
+      every-map _ _ (λ k. register-out _ _ _ _) (e .instance .captures) (gathered-none _ _ (a .0)) in
       let both : Every (λ r. Every (λ n. Present n × Fits (e .type) n) (namedBy (r .expression))) (e .instance .rules) =
-      every-map _ _ (λ r k. every-map _ _ (λ n. named-out (e .type) n) (namedBy (r .expression)) (gathered-none _ _ k)) (e .instance .rules)
+      every-map _ _ (λ r k. every-map _ _ (λ n. register-out _ _ _ _) (namedBy (r .expression)) (gathered-none _ _ k)) (e .instance .rules)
       (gathered-none _ _ (b .0)) in
       record {
-        captures = every-map _ _ (λ k. unless-none _ _ _) _ (gathered-none _ _ (a .0));
+        captured = every-map _ _ (λ k x. x .0) _ caught;
+        readable = every-map _ _ (λ k x. x .1) _ caught;
         present = every-map _ _ (λ r k. every-map _ _ (λ n x. x .0) _ k) _ both;
         fit = every-map _ _ (λ r k. every-map _ _ (λ n x. x .1) _ k) _ both;
         children = every-map _ _ (λ k. unless-none _ _ _) _ (gathered-none _ _ (b .1));
       }
 
   entry-in : (e : NodeEntry) → EntryGood e → instanceFaults c e ≡ []
-  unfolding instanceFaults captureFaults ruleFaults childFaults
+  unfolding instanceFaults captureFaults ruleFaults namedFaults childFaults
   entry-in e h =
-      none-append (none-gathered _ _ (every-map _ _ (λ k. none-unless _ _ _) _ (h .captures)))
+      none-append (none-gathered _ _ (every-map _ _ (λ k. register-in _ _ _ _) _ (every-both _ _ _ (h .captured) (h .readable))))
       (none-append
       (none-gathered _ _
-      (every-map _ _ (λ r k. none-gathered _ _ (every-map _ _ (λ n. named-in (e .type) n) _ (every-both _ _ _ (k .0) (k .1)))) _
+      (every-map _ _ (λ r k. none-gathered _ _ (every-map _ _ (λ n. register-in _ _ _ _) _ (every-both _ _ _ (k .0) (k .1)))) _
       (every-both _ _ _ (h .present) (h .fit))))
       (none-gathered _ _ (every-map _ _ (λ k. none-unless _ _ _) _ (h .children))))
 
-  pub references-out : referenceFaults c ≡ [] → NamesPresent c × RegistersFit c
-  unfolding referenceFaults rootFaults allCaptures allRules allChildren RegistersFit
+  pub references-out : referenceFaults c ≡ [] → NamesPresent c × RegistersFit c × CapturesReadable c
+  unfolding referenceFaults rootFaults allCaptures allRules allChildren RegistersFit CapturesReadable
   references-out h =
       let a = append-none _ _ h in
       let es : Every EntryGood (nodeEntries c) = every-map _ _ entry-out (nodeEntries c) (gathered-none _ _ (a .0)) in (
         record {
-          captures = every-gathered-in _ _ _ (every-map _ _ (λ e k. k .captures) _ es);
+          captures = every-gathered-in _ _ _ (every-map _ _ (λ e k. k .captured) _ es);
           rules = every-gathered-in _ _ _ (every-map _ _ (λ e k. k .present) _ es);
           children = every-gathered-in _ _ _ (every-map _ _ (λ e k. k .children) _ es);
           roots = every-map _ _ (λ t. unless-none _ _ _) _ (gathered-none _ _ (a .1));
         },
         every-map _ _ (λ e k. k .fit) _ es,
+        every-gathered-in _ _ _ (every-map _ _ (λ e k. k .readable) _ es),
       )
 
-  pub references-in : NamesPresent c → RegistersFit c → referenceFaults c ≡ []
-  unfolding referenceFaults rootFaults allCaptures allRules allChildren RegistersFit
-  references-in p f =
+  pub references-in : NamesPresent c → RegistersFit c → CapturesReadable c → referenceFaults c ≡ []
+  unfolding referenceFaults rootFaults allCaptures allRules allChildren RegistersFit CapturesReadable
+  references-in p f r =
       none-append
       (none-gathered _ _
-      (every-map _ _ (λ e k. entry-in e (record { captures = k .0 .0; present = k .0 .1; fit = k .1 .0; children = k .1 .1 })) (nodeEntries c)
+      (every-map _ _
+      (λ e k. entry-in e (record { captured = k .0 .0 .0; readable = k .0 .0 .1; present = k .0 .1; fit = k .1 .0; children = k .1 .1 })) (nodeEntries c)
       (every-both _ _ _
-      (every-both _ _ _ (every-gathered-out _ _ _ (p .captures)) (every-gathered-out _ _ _ (p .rules)))
+      (every-both _ _ _
+      (every-both _ _ _ (every-gathered-out _ _ _ (p .captures)) (every-gathered-out _ _ _ r)) (every-gathered-out _ _ _ (p .rules)))
       (every-both _ _ _ f (every-gathered-out _ _ _ (p .children))))))
       (none-gathered _ _ (every-map _ _ (λ t. none-unless _ _ _) _ (p .roots)))
 

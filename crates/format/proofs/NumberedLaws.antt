@@ -15,8 +15,8 @@ use Rattle.format.specs.ExpressionLayout.{Operation, isReading, isConsta
 use Rattle.format.specs.RegisterLayout.{registerInstanceAt, registerHeadAt, registerAt, registersAt}
 use Rattle.format.specs.NodeLayout.{captureAt, ruleAt, childAt, instanceHeadAt, nodeInstanceAt, nodeHeadAt, nodeAt, nodesAt}
 use Rattle.format.specs.FileLayout.{startAt, rootAt, rootsAt, fileAt}
-use Rattle.format.specs.Lookup.{NodeEntry, nodeEntries}
-use Rattle.format.specs.References.{Fault, unless, captureFaults, namedFaults, ruleFaults, childFaults, instanceFaults, rootFaults, referenceFaults}
+use Rattle.format.specs.Lookup.{RegisterEntry, NodeEntry, nodeEntries}
+use Rattle.format.specs.References.{Fault, unless, registerFaults, captureFaults, namedFaults, ruleFaults, childFaults, instanceFaults, rootFaults, referenceFaults}
 use Rattle.format.specs.Cycles.{cyclesFrom, cycleFaults}
 use Rattle.format.specs.Refusals.{numberOf}
 use Rattle.format.specs.Rules.{Every}
@@ -262,13 +262,17 @@ unfolding Every
 none-known = tt
 
 module _ (c : Chip) where
+  register-known : (asked : RegisterEntry → Bool) (id number place : ℕ) → Every Known (registerFaults c asked id number place)
+  unfolding registerFaults
+  register-known asked id number place = every-append-in Known _ _ (unless-known _ _ _ refl) (unless-known _ _ _ refl)
+
   entry-known : (e : NodeEntry) → Every Known (instanceFaults c e)
   unfolding instanceFaults captureFaults ruleFaults namedFaults childFaults
   entry-known e =
-      every-append-in Known _ _ (every-gathered-in Known _ _ (every-all _ (λ k. unless-known _ 12 _ refl) _))
+      every-append-in Known _ _ (every-gathered-in Known _ _ (every-all _ (λ k. register-known _ _ _ _) _))
       (every-append-in Known _ _
       (every-gathered-in Known _ _
-      (every-all _ (λ r. every-gathered-in Known _ _ (every-all _ (λ n. every-append-in Known _ _ (unless-known _ 12 _ refl) (unless-known _ 13 _ refl)) _)) _))
+      (every-all _ (λ r. every-gathered-in Known _ _ (every-all _ (λ n. register-known _ _ _ _) _)) _))
       (every-gathered-in Known _ _ (every-all _ (λ k. unless-known _ 12 _ refl) _)))
 
   references-known : Every Known (referenceFaults c)

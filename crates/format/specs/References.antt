@@ -1,4 +1,4 @@
--- Refusals 12 and 13: names that mean nothing, and registers that a rule may not name.
+-- Refusals 12 and 13: names that mean nothing, and registers that a capture or a rule may not name.
 use Prim.Native.Nat.{ℕ}
 use mathlib.Core.Bool.{Bool, cond, _&&_}
 use mathlib.Core.List.{List, [], _∷_, _++_}
@@ -53,15 +53,22 @@ module _ (c : Chip) where
   unfoldable pub hasNode : ℕ → ℕ → Bool
   hasNode id number = some (nodeNamed id number) (nodeEntries c)
 
-  -- "Captured registers need only exist": otherwise 12.
+  -- The register instance is in the file, and is as asked.
+  unfoldable pub hasRegisterThat : (RegisterEntry → Bool) → ℕ → ℕ → Bool
+  hasRegisterThat asked id number = some (λ e. registerNamed id number e && asked e) (registerEntries c)
+
+  -- A register instance that is named at a place: 12 where it is absent, then 13 where it is not as asked.
+  unfoldable pub registerFaults : (RegisterEntry → Bool) → ℕ → ℕ → ℕ → List Fault
+  registerFaults asked id number place =
+      unless (hasRegister id number) 12 place ++ unless (hasRegisterThat asked id number) 13 place
+
+  -- Document 02 (i): "a capture whose register lacks the readable flag is refusal 13, place the capture's first byte. At one capture 12 still comes before 13."
   unfoldable pub captureFaults : Capture → List Fault
-  captureFaults k = unless (hasRegister (k .id) (k .number)) 12 (k .place)
+  captureFaults k = registerFaults (λ e. readable (e .flags)) (k .id) (k .number) (k .place)
 
   -- A register that the rule of a node of this type names: 12 where it is absent, then 13 where it does not fit.
   unfoldable pub namedFaults : ℕ → Named → List Fault
-  namedFaults type n =
-      unless (hasRegister (n .id) (n .number)) 12 (n .place)
-      ++ unless (some (λ e. registerNamed (n .id) (n .number) e && fits type e) (registerEntries c)) 13 (n .place)
+  namedFaults type n = registerFaults (fits type) (n .id) (n .number) (n .place)
 
   unfoldable pub ruleFaults : ℕ → Rule → List Fault
   ruleFaults type r = gathered (namedFaults type) (namedBy (r .expression))

@@ -1,11 +1,11 @@
--- The rules of document 01 as propositions on trees, one for each number of its table. (2, 3, 4 and 11 say that the file is an encoding.)
+-- The rules of document 01, with what document 02 (i) amends, as propositions on trees, under the numbers of its table. (2, 3, 4 and 11 say that the file is an encoding.)
 use Prim.Native.Nat.{ℕ, _^_, _≤_, _<_, max, suc}
 use mathlib.Core.Bool.{true, false, _&&_}
 use mathlib.Core.List.{List, [], _∷_, map}
 use mathlib.Core.Path.{_≡_}
 use lib.ListN.{length}
 use Rattle.format.specs.Limits.{fileLimit, registerLimit, nodeLimit, levels}
-use Rattle.format.specs.Fields.{knownType, addressSize, knownFlags, knownAttention, member}
+use Rattle.format.specs.Fields.{knownType, addressSize, knownFlags, readable, knownAttention, member}
 use Rattle.format.specs.Lookup.{some, gathered, registerEntries, registerNamed, nodeEntries, nodeNamed}
 use Rattle.format.specs.References.{namedBy, fits, hasRegister, hasNode, hasRule}
 use Rattle.format.specs.Cycles.{OnCycle}
@@ -147,6 +147,10 @@ module _ (c : Chip) where
       (e .instance .rules))
       (nodeEntries c)
 
+  -- 13: a captured register is readable (document 02, i).
+  unfoldable pub CapturesReadable : Type 0
+  CapturesReadable = Every (λ k. some (λ x. registerNamed (k .id) (k .number) x && readable (x .flags)) (registerEntries c) ≡ true) (allCaptures c)
+
   -- All rules.
   pub record Meets : Type 0 where
     pub fields : FieldsFit
@@ -168,5 +172,6 @@ module _ (c : Chip) where
     pub present : NamesPresent
     -- 13
     pub fit : RegistersFit
+    pub captures : CapturesReadable
     -- 14: "the child entries make a cycle"
     pub acyclic : (i : ℕ) → OnCycle c i → ⊥

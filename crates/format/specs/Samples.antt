@@ -1,4 +1,4 @@
--- Document 01, "Bench samples": the starred samples that speak of a file or an expression alone, as one table.
+-- Document 01, "Bench samples": the starred samples that speak of a file or an expression alone, as one table, and three files that show document 02 (i).
 use Prim.Native.Nat.{ℕ}
 use mathlib.Core.List.{List, [], _∷_, _++_}
 use mathlib.Core.Path.{_≡_}
@@ -22,6 +22,10 @@ b1 =
 unfoldable pub selfChild : List ℕ
 selfChild = set (take 51 b1) 44 1 ++ (0x00 ∷ 0x00 ∷ 0x01 ∷ 0x00 ∷ drop 51 b1)
 
+-- B1 whose node instance captures an instance of register 1, at 45; the rule stands at 49, and its expression at 50.
+unfoldable pub capturing : ℕ → List ℕ
+capturing number = set (take 45 b1) 42 1 ++ (0x00 ∷ 0x00 ∷ 0x01 ∷ number ∷ drop 45 b1)
+
 -- A row: a file and the checker's answer; or the bytes of an expression that names no register, and its value.
 pub data Row : Type 0 where
   file : List ℕ → CheckValues → Row
@@ -43,5 +47,8 @@ samples =
     ∷ file (b1 ++ (0 ∷ [])) (refusedWith 11 60)
     ∷ file (set b1 24 0x00) (refusedWith 13 46)
     ∷ file selfChild (refusedWith 14 41)
+    ∷ file (capturing 0) (acceptedWith 1 1 1 1 1 1)
+    ∷ file (set (capturing 0) 24 0x40) (refusedWith 13 45)
+    ∷ file (set (capturing 1) 24 0x40) (refusedWith 12 45)
     ∷ word (0x12 ∷ 0x02 ∷ 0 ∷ 0 ∷ 0 ∷ 0 ∷ 0 ∷ 0 ∷ 0 ∷ 0xff ∷ []) 0xffff_ffff_ffff_ff00
     ∷ []

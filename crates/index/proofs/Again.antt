@@ -16,7 +16,8 @@ use Rattle.nodes.specs.declared.NodeHead as node
 use Rattle.nodes.specs.Nodes.{nodeNumber}
 use Rattle.index.specs.declared.Head.{Head}
 use Rattle.index.specs.declared.Instance.{Instance}
-use Rattle.index.specs.Rows.{kindOf, wantedKind, headOf, nodeHeadOf, instanceOf}
+use Rattle.tables.specs.Kinds.{kindOf, wantedKind}
+use Rattle.index.specs.Rows.{headOf, nodeHeadOf, instanceOf}
 
 pub done-out : {A : Type 0} {a b : A} {n m : ℕ} → done a n ≡ done b m → (a ≡ b) × (n ≡ m)
 done-out {A} {a} {b} {n} {m} e = (let p : a ≡ b = cc in p, let q : n ≡ m = cc in q)

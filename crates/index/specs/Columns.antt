@@ -5,7 +5,8 @@ use mathlib.Core.Path.{_≡_}
 use Rattle.format.specs.Lookup.{registerEntries, nodeEntries}
 use Rattle.format.specs.Tree.{Chip}
 use Rattle.tables.specs.Keys.{registerKeys, nodeKeys}
-use Rattle.index.specs.Rows.{kindOf, entryPlace, entryWanted}
+use Rattle.tables.specs.Kinds.{kindOf}
+use Rattle.index.specs.Rows.{entryPlace, entryWanted}
 
 -- The kinds of the register instances.
 abbrev pub registerKinds : Chip → List ℕ

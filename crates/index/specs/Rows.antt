@@ -1,5 +1,5 @@
 -- The tables of a file: three columns, with a row for each register instance or node instance in file order.
-use Prim.Native.Nat.{ℕ, suc, _+_, _*_, _/_}
+use Prim.Native.Nat.{ℕ, suc}
 use mathlib.Core.Bool.{true}
 use mathlib.Core.List.{List, [], _∷_}
 use mathlib.Core.Path.{_≡_}
@@ -8,6 +8,7 @@ use Rattle.format.specs.Lookup.{RegisterEntry, NodeEntry}
 use Rattle.format.specs.RegisterLayout.{RegisterHead}
 use Rattle.format.specs.NodeLayout.{NodeHead, nodeInstanceAt}
 use Rattle.format.specs.Parsed.{done}
+use Rattle.tables.specs.Kinds.{kindOf, wantedKind}
 use Rattle.tables.specs.Tables.{keyOf}
 use Rattle.index.specs.declared.Head as declared
 use Rattle.index.specs.declared.Instance.{Instance}
@@ -31,14 +32,6 @@ putRow t k r = record { keys = set (t .keys) k (r .key); kinds = set (t .kinds) 
 unfoldable pub filled : Rows → ℕ → List Row → Rows
 filled t k [] = t
 filled t k (r ∷ rs) = filled (putRow t k r) (suc k) rs
-
--- A register's type, and whether it is readable, in one number.
-unfoldable pub kindOf : ℕ → ℕ → ℕ
-kindOf type flags = type * 2 + flags / 128
-
--- The kind of the registers that the rules of a node of this type may name: readable, and of the type.
-unfoldable pub wantedKind : ℕ → ℕ
-wantedKind type = type * 2 + 1
 
 -- A row: the name of an instance, its kind, and a place.
 unfoldable pub rowOf : ℕ → ℕ → ℕ → ℕ → Row

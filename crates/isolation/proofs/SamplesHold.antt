@@ -1,4 +1,4 @@
--- Every starred sample of the table holds.
+-- Every sample of the table holds.
 use mathlib.Core.Path.{refl}
 use Rattle.format.specs.Cycles.{leads, childEdge, OnCycle, cyclesFrom, cycleFaults}
 use Rattle.format.specs.ExpressionLayout.{operationOf, readingAt, operandsAt, shiftedAt, bodyAt, exprAt}
@@ -9,9 +9,9 @@ use Rattle.format.specs.Lookup.{some, position, at, gathered, entriesOf, regist
 use Rattle.format.specs.Meaning.{valueWithin, bitsWithin}
 use Rattle.format.specs.NodeLayout.{captureAt, ruleAt, childAt, instanceHeadAt, nodeInstanceAt, nodeTotal, nodeHeadAt, nodeAt, nodesAt}
 use Rattle.format.specs.Parsed.{andThen, making, require, requiring, rowAt}
-use Rattle.format.specs.References.{unless, fits, hasRule, hasRegister, hasNode, captureFaults, namedFaults, ruleFaults, childFaults, instanceFaults, rootFaults, referenceFaults, namedBy}
+use Rattle.format.specs.References.{unless, fits, hasRule, hasRegister, hasRegisterThat, registerFaults, hasNode, captureFaults, namedFaults, ruleFaults, childFaults, instanceFaults, rootFaults, referenceFaults, namedBy}
 use Rattle.format.specs.RegisterLayout.{registerTotal, registerInstanceAt, registerHeadAt, registerAt, registersAt}
-use Rattle.format.specs.Samples.{b1, selfChild}
+use Rattle.format.specs.Samples.{b1, selfChild, capturing}
 use Rattle.format.specs.Tree.{gather}
 use Rattle.format.specs.Verdict.{judged, verdict, checkOf, check}
 use Rattle.graph.specs.Below.{any, count}
@@ -29,5 +29,5 @@ use Rattle.numbers.specs.Field.{present, field}
 use Rattle.isolation.specs.Samples.{AllHold, samples}
 
 pub samples-hold : AllHold samples
-unfolding leads childEdge OnCycle cyclesFrom cycleFaults operationOf readingAt operandsAt shiftedAt bodyAt exprAt fieldAt same keywordAt countAt knownType typeAt addressSize knownFlags flagsAt readable knownAttention attentionAt member fresh startAt rootAt rootsAt fileAt fileLimit registerLimit nodeLimit levels chipdata regs node root some position at gathered entriesOf registerEntries registerNamed nodeEntriesOf nodeEntries nodeNamed registerPosition nodePosition valueWithin bitsWithin captureAt ruleAt childAt instanceHeadAt nodeInstanceAt nodeTotal nodeHeadAt nodeAt nodesAt andThen making require requiring rowAt unless fits hasRule hasRegister hasNode captureFaults namedFaults ruleFaults childFaults instanceFaults rootFaults referenceFaults namedBy registerTotal registerInstanceAt registerHeadAt registerAt registersAt b1 selfChild gather judged verdict checkOf check any count linked reachedFrom listed below kept listedOf reachedCount reachedIn reached onCycle firstOf ruleFor rootFor childFor ruleUnread ruleActive entryActive childPosition entryChild chipGraph entryUnread reachedUnread listOutcome allRead fromRoot isolateIn isolate readingsFit hasValue wordFor unreadFaults recordSize recordOf recordBytes listing linkRecord recordsOf lent bigEndian bytesOf bitOf wordOf notBits andBits orBits leftBits rightBits present field
-samples-hold = (refl, (refl, (refl, (refl, (refl, (refl, (refl, (refl, (refl, (refl, (refl, (refl, tt))))))))))))
+unfolding leads childEdge OnCycle cyclesFrom cycleFaults operationOf readingAt operandsAt shiftedAt bodyAt exprAt fieldAt same keywordAt countAt knownType typeAt addressSize knownFlags flagsAt readable knownAttention attentionAt member fresh startAt rootAt rootsAt fileAt fileLimit registerLimit nodeLimit levels chipdata regs node root some position at gathered entriesOf registerEntries registerNamed nodeEntriesOf nodeEntries nodeNamed registerPosition nodePosition valueWithin bitsWithin captureAt ruleAt childAt instanceHeadAt nodeInstanceAt nodeTotal nodeHeadAt nodeAt nodesAt andThen making require requiring rowAt unless fits hasRule hasRegister hasRegisterThat registerFaults hasNode captureFaults namedFaults ruleFaults childFaults instanceFaults rootFaults referenceFaults namedBy registerTotal registerInstanceAt registerHeadAt registerAt registersAt b1 selfChild capturing gather judged verdict checkOf check any count linked reachedFrom listed below kept listedOf reachedCount reachedIn reached onCycle firstOf ruleFor rootFor childFor ruleUnread ruleActive entryActive childPosition entryChild chipGraph entryUnread reachedUnread listOutcome allRead fromRoot isolateIn isolate readingsFit hasValue wordFor unreadFaults recordSize recordOf recordBytes listing linkRecord recordsOf lent bigEndian bytesOf bitOf wordOf notBits andBits orBits leftBits rightBits present field
+samples-hold = (refl, (refl, (refl, (refl, (refl, (refl, (refl, (refl, (refl, (refl, (refl, (refl, (refl, (refl, (refl, tt)))))))))))))))

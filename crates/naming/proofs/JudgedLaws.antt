@@ -1,8 +1,9 @@
--- The first fault of an expression: of the name in its head, and then of its operands, one after another.
+-- The first fault of a register that is named, and of an expression: of the name in its head, and then of its operands, one after another.
 use Prim.Native.Nat.{ℕ, _-_, _≤_, _<_}
 use mathlib.Core.Path.{_≡_, sym, _∙_, ap}
-use mathlib.Core.List.{List, [], _++_}
-use borrow.Author.Tests.{lt-ltb, le-ltb, eq-eqb, ne-eqb}
+use mathlib.Core.Bool.{Bool, true, false}
+use mathlib.Core.List.{List, [], _++_, append-nil}
+use lib.Dec.{ltb, eqb}
 use lib.ListN.{length, getD}
 use Rattle.format.specs.declared.Refusal.{Refusal}
 use Rattle.format.specs.Parsed.{Parsed, done, refused}
@@ -19,29 +20,37 @@ use Rattle.expressions.specs.declared.Head.the-variants.{Reading}
 use Rattle.expressions.specs.declared.HeadRead
 use Rattle.expressions.specs.declared.HeadRead.{HeadRead}
 use Rattle.expressions.specs.Heads.{arityOf, built, headAt, headParsed}
-use Rattle.tables.specs.Faults.{judgedAt, positionIn, present, nameFaults}
+use Rattle.tables.specs.Faults.{judgedAt, positionIn, present, registerFaultsIn, nameFaults}
 use Rattle.tables.proofs.FaultsLaws.{judged-none, judged-stop, judged-on}
 use Rattle.expressions.specs.Names.{ownNames}
 use Rattle.expressions.proofs.NamesLaws.{named-built}
 use Rattle.expressions.proofs.OperandsLaws.{Ahead, opened, turn, turned}
 
--- One name, found at position k of the keys.
-module _ (keys kinds : List ℕ) (type at id n m : ℕ) {k : ℕ} where
-  pub name-absent : k ≡ positionIn keys id n → length keys ≤ k
-      → refused 12 at ≡ judgedAt (gathered (nameFaults keys kinds type) (ownNames at (Reading id n))) m
-  unfolding judgedAt gathered nameFaults present unless
-  name-absent e h = simp (← e, le-ltb _ _ h)
+-- A register that was found or not, and is fit or not.
+module _ (at next : ℕ) where
+  pub register-absent : (fit : Bool) {found : Bool} → found ≡ false → refused 12 at ≡ judgedAt (unless found 12 at ++ unless fit 13 at) next
+  unfolding judgedAt unless
+  register-absent fit h = rw h
 
-  module _ {t : ℕ} where
-    pub name-unfit : k ≡ positionIn keys id n → k < length keys → t ≡ getD kinds k 0 → (t ≡ type → ⊥)
-        → refused 13 at ≡ judgedAt (gathered (nameFaults keys kinds type) (ownNames at (Reading id n))) m
-    unfolding judgedAt gathered nameFaults present unless
-    name-unfit e h g z = simp (← e, lt-ltb _ _ h, ← g, ne-eqb _ _ z)
+  pub register-unfit : {found fit : Bool} → found ≡ true → fit ≡ false → refused 13 at ≡ judgedAt (unless found 12 at ++ unless fit 13 at) next
+  unfolding judgedAt unless
+  register-unfit h g = rw (h, g)
 
-    pub name-fit : k ≡ positionIn keys id n → k < length keys → t ≡ getD kinds k 0 → t ≡ type
-        → done tt m ≡ judgedAt (gathered (nameFaults keys kinds type) (ownNames at (Reading id n))) m
-    unfolding judgedAt gathered nameFaults present unless
-    name-fit e h g z = simp (← e, lt-ltb _ _ h, ← g, eq-eqb _ _ z)
+  pub register-fit : {found fit : Bool} → found ≡ true → fit ≡ true → done tt next ≡ judgedAt (unless found 12 at ++ unless fit 13 at) next
+  unfolding judgedAt unless
+  register-fit h g = rw (h, g)
+
+-- The register of a name, found at position k of the keys, whose entry in the kinds is t.
+module _ (keys kinds : List ℕ) (id n at next : ℕ) {k t : ℕ} {y : Parsed (Unit {0})} (e : k ≡ positionIn keys id n) (g : t ≡ getD kinds k 0) where
+  pub register-judged : (asked : ℕ → Bool) → y ≡ judgedAt (unless (ltb k (length keys)) 12 at ++ unless (asked t) 13 at) next
+      → y ≡ judgedAt (registerFaultsIn keys kinds asked id n at) next
+  unfolding registerFaultsIn present
+  register-judged asked h = h ∙ rw (g, e)
+
+  pub name-judged : (kind : ℕ) → y ≡ judgedAt (unless (ltb k (length keys)) 12 at ++ unless (eqb t kind) 13 at) next
+      → y ≡ judgedAt (gathered (nameFaults keys kinds kind) (ownNames at (Reading id n))) next
+  unfolding gathered nameFaults
+  name-judged kind h = register-judged (λ k. eqb k kind) h ∙ ap (λ fs. judgedAt fs next) (sym (append-nil _))
 
 module _ (f : Named → List Fault) where
   -- Nothing is named, so there is no fault.

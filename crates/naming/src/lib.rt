@@ -1,4 +1,4 @@
-// The faults of the names in a rule's expression once its layout was read: refusals 12 and 13.
+// The faults of the registers that captures and rules name once the layout was read: refusals 12 and 13.
 use expressions::Head;
 use expressions::HeadRead;
 use expressions::arity;
@@ -9,18 +9,54 @@ use format::Refusal;
 use tables::entry;
 use tables::name_position;
 ghost use Prim.Native.Nat.{ℕ};
+ghost use mathlib.Core.List.{_++_};
 ghost use mathlib.Core.Path.{_≡_};
 ghost use Rattle.format.specs.ExpressionLayout.{exprAt};
 ghost use Rattle.format.specs.Lookup.{gathered};
 ghost use Rattle.format.specs.Parsed.{done};
-ghost use Rattle.format.specs.References.{namedBy};
+ghost use Rattle.format.specs.References.{unless, namedBy};
 ghost use Rattle.format.specs.Tree.{Expr};
-ghost use Rattle.tables.specs.Faults.{judgedAt, nameFaults};
+ghost use Rattle.tables.specs.Faults.{judgedAt, registerFaultsIn, nameFaults};
+ghost use Rattle.tables.specs.Kinds.{readableKind};
 ghost use Rattle.expressions.specs.declared.Head.{Head};
 ghost use Rattle.fields.specs.Views.{nextParsed};
 ghost use Rattle.expressions.specs.Names.{ownNames};
 
-// The fault of the register that the expression at a place names, or the place after it.
+// A register that is named at a place: 12 where it was not found, then 13 where it is not fit, otherwise the place after it.
+fn register_fault(found: bool, fit: bool, at: usize, next: usize) -> NextRead
+    ensures { λ r. ⌜ nextParsed r ≡ judgedAt (unless found 12 at ++ unless fit 13 at) next ⌝ }
+{
+    if found {
+        if fit {
+            return NextRead::Next(next);
+        }
+        return NextRead::Refused(Refusal {
+            kind: Kind::RegisterUnfit,
+            place: at,
+        });
+    }
+    NextRead::Refused(Refusal {
+        kind: Kind::NameAbsent,
+        place: at,
+    })
+}
+
+// The fault of the register that the capture at a place names, or the place after it: a captured register is readable.
+pub fn capture_fault(
+    id: u64,
+    number: u8,
+    at: usize,
+    next: usize,
+    keys: &[u64],
+    kinds: &[u64],
+) -> NextRead
+    ensures { λ r. ⌜ nextParsed r ≡ judgedAt (registerFaultsIn (now (keys .entry)) (now (kinds .entry)) readableKind id number at) next ⌝ }
+{
+    let k = name_position(keys, id, number);
+    register_fault(k < keys.len(), entry(kinds, k) % 2 == 1, at, next)
+}
+
+// The fault of the register that the expression at a place names, or the place after it: it has the kind that the rule's node asks for.
 fn name_fault(
     id: u64,
     number: u8,
@@ -34,20 +70,7 @@ fn name_fault(
         ≡ judgedAt (gathered (nameFaults (now (keys .entry)) (now (kinds .entry)) kind) (ownNames at (Head.Reading id number))) next ⌝ }
 {
     let k = name_position(keys, id, number);
-    if k < keys.len() {
-        let entered = entry(kinds, k);
-        if entered == kind {
-            return NextRead::Next(next);
-        }
-        return NextRead::Refused(Refusal {
-            kind: Kind::RegisterUnfit,
-            place: at,
-        });
-    }
-    NextRead::Refused(Refusal {
-        kind: Kind::NameAbsent,
-        place: at,
-    })
+    register_fault(k < keys.len(), entry(kinds, k) == kind, at, next)
 }
 
 // The fault of a head itself, which stands at a place: only a reading names a register.

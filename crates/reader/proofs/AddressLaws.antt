@@ -25,12 +25,13 @@ use Rattle.format.proofs.FaultsLaws.{at-none}
 use Rattle.format.proofs.PositionsLaws.{every-at, at-inside}
 use Rattle.fields.proofs.Parsing.{Found, found, missed}
 use Rattle.tables.specs.Faults.{positionIn}
-use Rattle.index.specs.Rows.{kindOf}
 use Rattle.tables.specs.Keys.{registerKeys}
+use Rattle.tables.specs.Kinds.{kindOf}
 use Rattle.index.specs.Columns.{registerKinds, registerPlaces}
 use Rattle.tables.proofs.ColumnLaws.{column-at}
 use Rattle.format.proofs.PositionsLaws.{at-most, some-out, some-position}
 use Rattle.tables.proofs.KeysLaws.{registers-fit, register-position-in}
+use Rattle.tables.proofs.KindsLaws.{kind-type}
 use Rattle.reader.specs.Layout.{Summary, layoutValues}
 
 -- The checker's values of a reading.
@@ -72,10 +73,6 @@ unfolding address addressOf
 address-accepted s id number e = sym (ap (addressOf id number) e)
 
 -- The address by the tables of a chip.
-
-type-of : (t f n : ℕ) → f < 256 → n ≡ kindOf t f → n / 2 ≡ t
-unfolding kindOf
-type-of t f n h e = omega arith
 
 size-four : (t : ℕ) → t ≡ 1 → addressSize t ≡ 4
 unfolding addressSize
@@ -130,7 +127,7 @@ module _ (c : Chip) (fit : FieldsFit c) (id number : ℕ) (small : number < 256)
             e,
             subst (λ x. at x (registerEntries c) ≡ e ∷ []) found-is (a .1),
             ep ∙ ap (λ z. getD z k 0) es ∙ column-at (λ e. e .instance .place) (registerEntries c) k (a .1),
-            type-of (e .type) (e .flags) n (f .1) q,
+            kind-type (e .type) (e .flags) n (f .1) q,
           )
 
       pub address-four : n / 2 ≡ 1 → record { number = 0; place = 0; offset = p; size = 4 } ≡ addressIn (at (registerPosition c id number) (registerEntries c))

@@ -1,7 +1,6 @@
 -- The laws of faults by tables.
 pub mod JudgingLaws
 pub mod PartsLaws
-pub mod KindLaws
 pub mod TablesLaws
 pub mod ScanLaws
 pub mod RootsLaws

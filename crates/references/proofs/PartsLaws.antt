@@ -13,13 +13,14 @@ use Rattle.format.specs.NodeLayout.{InstanceHead, captureAt, ruleAt, childAt, i
 use Rattle.format.specs.Parsed.{Parsed, done, refused, rowAt}
 use Rattle.format.specs.References.{unless, namedBy}
 use Rattle.format.specs.Tree.{Capture, Rule, Child, NodeInstance, Expr}
-use Rattle.tables.specs.Faults.{judgedAt, positionIn, present, nameFaults}
+use Rattle.tables.specs.Faults.{judgedAt, positionIn, present, registerFaultsIn, nameFaults}
+use Rattle.tables.specs.Kinds.{readableKind}
 use Rattle.tables.proofs.FaultsLaws.{judged-stop, judged-on}
 use Rattle.index.proofs.Again.{same-done, not-refused}
 use Rattle.index.proofs.PartsLaws.{naming-id, naming-number, naming-all, capture-fields, rule-fields, child-fields, Parts, instance-parts}
 use Rattle.references.specs.FaultsIn.{captureFaultsIn, ruleFaultsIn, childFaultsIn, instanceFaultsIn}
 
--- One name, found at position k of the keys.
+-- The name of a child, found at position k of the keys of the node instances.
 module _ (keys : List ℕ) (id number at next : ℕ) {k : ℕ} (e : k ≡ positionIn keys id number) where
   pub name-there : k < length keys → done tt next ≡ judgedAt (unless (present keys id number) 12 at) next
   unfolding judgedAt present unless
@@ -31,9 +32,10 @@ module _ (keys : List ℕ) (id number at next : ℕ) {k : ℕ} (e : k ≡ positi
 
 module _ (s : List ℕ) (at : ℕ) where
   -- A capture whose fields the code read.
-  module _ (keys : List ℕ) {id a number next : ℕ} {y : Parsed (Unit {0})} where
-    pub capture-judged : done id a ≡ fieldAt s at 3 → done number next ≡ fieldAt s a 1 → y ≡ judgedAt (unless (present keys id number) 12 at) next
-        → (before : List Capture) (k : Capture) (m : ℕ) → captureAt s before at ≡ done k m → y ≡ judgedAt (captureFaultsIn keys k) m
+  module _ (keys kinds : List ℕ) {id a number next : ℕ} {y : Parsed (Unit {0})} where
+    pub capture-judged : done id a ≡ fieldAt s at 3 → done number next ≡ fieldAt s a 1
+        → y ≡ judgedAt (registerFaultsIn keys kinds readableKind id number at) next
+        → (before : List Capture) (k : Capture) (m : ℕ) → captureAt s before at ≡ done k m → y ≡ judgedAt (captureFaultsIn keys kinds k) m
     unfolding captureFaultsIn
     capture-judged p q h before k m e =
         let f = capture-fields s at before e in
@@ -97,9 +99,9 @@ module _ (s : List ℕ) (at : ℕ) where
   module _ (keys kinds nodes : List ℕ) (kind : ℕ) {h : InstanceHead} {a : ℕ} (p : done h a ≡ instanceHeadAt s true 0 [] at)
       (total : ℕ) (before : List NodeInstance) (i : NodeInstance) (m : ℕ) (e : nodeInstanceAt s true total before at ≡ done i m) where
     module _ {y : Parsed (Unit {0})}
-        (c : (ks : List Capture) (m : ℕ) → rowAt (captureAt s) (h .captures) [] a ≡ done ks m → y ≡ judgedAt (gathered (captureFaultsIn keys) ks) m) where
+        (c : (ks : List Capture) (m : ℕ) → rowAt (captureAt s) (h .captures) [] a ≡ done ks m → y ≡ judgedAt (gathered (captureFaultsIn keys kinds) ks) m) where
       -- The captures decide, or have no fault.
-      captures-judged : (q : Parts s at i m) → y ≡ judgedAt (gathered (captureFaultsIn keys) (i .captures)) (q .rules-at)
+      captures-judged : (q : Parts s at i m) → y ≡ judgedAt (gathered (captureFaultsIn keys kinds) (i .captures)) (q .rules-at)
       captures-judged q =
           let g = same-done p (q .read) in
           c (i .captures) (q .rules-at) (rw (g .0, g .1) (q .captures))
@@ -116,7 +118,7 @@ module _ (s : List ℕ) (at : ℕ) where
         unfolding instanceFaultsIn
         rules-judged q =
             let g = same-done p (q .read) in
-            let j = judged-on (gathered (captureFaultsIn keys) (i .captures)) (gathered (ruleFaultsIn keys kinds kind) (i .rules) ++ gathered (childFaultsIn nodes) (i .children)) m (sym (captures-judged q) ∙ r) in
+            let j = judged-on (gathered (captureFaultsIn keys kinds) (i .captures)) (gathered (ruleFaultsIn keys kinds kind) (i .rules) ++ gathered (childFaultsIn nodes) (i .children)) m (sym (captures-judged q) ∙ r) in
             (d (i .rules) (q .children-at) (rw (g .0, ← j .0) (q .rules)), j .1)
 
         pub instance-rules-no : {n w : ℕ} → z ≡ refused n w → refused n w ≡ judgedAt (instanceFaultsIn keys kinds nodes kind i) m

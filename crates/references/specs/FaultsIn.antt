@@ -5,12 +5,12 @@ use mathlib.Core.List.{List, _++_}
 use Rattle.format.specs.Lookup.{some, at, gathered, NodeEntry}
 use Rattle.format.specs.References.{Fault, unless, namedBy, hasRule}
 use Rattle.format.specs.Tree.{Capture, Rule, Child, NodeInstance, Root}
-use Rattle.tables.specs.Faults.{positionIn, present, nameFaults}
-use Rattle.index.specs.Rows.{wantedKind}
+use Rattle.tables.specs.Faults.{positionIn, present, registerFaultsIn, nameFaults}
+use Rattle.tables.specs.Kinds.{wantedKind, readableKind}
 
--- A capture of a register instance that is absent.
-unfoldable pub captureFaultsIn : List ℕ → Capture → List Fault
-captureFaultsIn keys k = unless (present keys (k .id) (k .number)) 12 (k .place)
+-- A capture of a register instance that is absent, or not readable.
+unfoldable pub captureFaultsIn : List ℕ → List ℕ → Capture → List Fault
+captureFaultsIn keys kinds k = registerFaultsIn keys kinds readableKind (k .id) (k .number) (k .place)
 
 -- What is wrong with the registers that a rule names.
 unfoldable pub ruleFaultsIn : List ℕ → List ℕ → ℕ → Rule → List Fault
@@ -23,7 +23,7 @@ childFaultsIn nodes k = unless (present nodes (k .id) (k .number)) 12 (k .place)
 -- All faults of a node instance, in byte order.
 unfoldable pub instanceFaultsIn : List ℕ → List ℕ → List ℕ → ℕ → NodeInstance → List Fault
 instanceFaultsIn keys kinds nodes kind i =
-    gathered (captureFaultsIn keys) (i .captures)
+    gathered (captureFaultsIn keys kinds) (i .captures)
     ++ (gathered (ruleFaultsIn keys kinds kind) (i .rules) ++ gathered (childFaultsIn nodes) (i .children))
 
 unfoldable pub entryFaultsIn : List ℕ → List ℕ → List ℕ → NodeEntry → List Fault

@@ -28,8 +28,8 @@ ghost use Rattle.references.specs.FaultsIn.{captureFaultsIn, ruleFaultsI
 
 pub mod roots;
 
-// A name that has to be among the keys: 12 at `at` where it is not, otherwise the place after it.
-fn name_fault(keys: &[u64], id: u64, number: u8, at: usize, next: usize) -> NextRead
+// A child's name, which has to be among the keys: 12 at `at` where it is not, otherwise the place after it.
+fn child_name_fault(keys: &[u64], id: u64, number: u8, at: usize, next: usize) -> NextRead
     ensures { λ r. ⌜ nextParsed r ≡ judgedAt (unless (present (now (keys .entry)) id number) 12 at) next ⌝ }
 {
     let k = name_position(keys, id, number);
@@ -43,17 +43,19 @@ fn name_fault(keys: &[u64], id: u64, number: u8, at: usize, next: usize) -> Next
 }
 
 // The fault of a capture, or the place after it.
-fn capture_fault(s: &[u8], at: usize, keys: &[u64]) -> NextRead
+fn capture_fault(s: &[u8], at: usize, keys: &[u64], kinds: &[u64]) -> NextRead
     ensures { λ r. ⌜ ((before : List Capture) (k : Capture) (m : ℕ)
         → captureAt (now (s .entry)) before at ≡ done k m
-        → nextParsed r ≡ judgedAt (captureFaultsIn (now (keys .entry)) k) m) ⌝ }
+        → nextParsed r ≡ judgedAt (captureFaultsIn (now (keys .entry)) (now (kinds .entry)) k) m) ⌝ }
 {
     let i = number_at(s, at, Width::Three);
     match i {
         NumberRead::Number(id, a) => {
             let n = byte_at(s, a);
             match n {
-                ByteRead::Byte(number, end) => name_fault(keys, id, number, at, end),
+                ByteRead::Byte(number, end) => {
+                    naming::capture_fault(id, number, at, end, keys, kinds)
+                }
                 ByteRead::Refused(r) => NextRead::Refused(r),
             }
         }
@@ -88,7 +90,9 @@ fn child_fault(s: &[u8], at: usize, keys: &[u64]) -> NextRead
                 NumberRead::Number(id, d) => {
                     let n = byte_at(s, d);
                     match n {
-                        ByteRead::Byte(number, end) => name_fault(keys, id, number, at, end),
+                        ByteRead::Byte(number, end) => {
+                            child_name_fault(keys, id, number, at, end)
+                        },
                         ByteRead::Refused(r) => NextRead::Refused(r),
                     }
                 }
@@ -100,15 +104,15 @@ fn child_fault(s: &[u8], at: usize, keys: &[u64]) -> NextRead
 }
 
 // The first fault of so many captures, or the place after them. It looks each up once.
-fn capture_faults(s: &[u8], at: usize, n: u8, keys: &[u64]) -> NextRead
+fn capture_faults(s: &[u8], at: usize, n: u8, keys: &[u64], kinds: &[u64]) -> NextRead
     ensures { λ r. ⌜ ((ks : List Capture) (m : ℕ)
         → rowAt (captureAt (now (s .entry))) n [] at ≡ done ks m
-        → nextParsed r ≡ judgedAt (gathered (captureFaultsIn (now (keys .entry))) ks) m) ⌝ }
+        → nextParsed r ≡ judgedAt (gathered (captureFaultsIn (now (keys .entry)) (now (kinds .entry))) ks) m) ⌝ }
 {
     let mut left = n;
     let mut place = at;
     while 0 < left {
-        let f = capture_fault(s, place, keys);
+        let f = capture_fault(s, place, keys, kinds);
         match f {
             NextRead::Next(next) => {
                 place = next;
@@ -187,7 +191,7 @@ pub fn instance_faults(
         InstanceHeadRead::Head(h, a) => {
             let rules = h.rules;
             let children = h.children;
-            let c = capture_faults(s, a, h.captures, keys);
+            let c = capture_faults(s, a, h.captures, keys, kinds);
             match c {
                 NextRead::Next(b) => {
                     let d = rule_faults(s, b, rules, kind, keys, kinds);

@@ -1,4 +1,4 @@
--- Document 01, "Bench samples": all starred samples as one table, with what the program prints for B1.
+-- Document 01, "Bench samples": all starred samples as one table, with what the program prints for B1, and three files that show document 02 (i).
 use Prim.Native.Nat.{ℕ}
 use mathlib.Core.List.{List, [], _∷_}
 use mathlib.Core.Path.{_≡_}

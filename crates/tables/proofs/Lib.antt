@@ -3,4 +3,5 @@ pub mod TablesLaws
 pub mod ColumnLaws
 pub mod FaultsLaws
 pub mod KeysLaws
+pub mod KindsLaws
 pub mod WritingLaws

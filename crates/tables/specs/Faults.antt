@@ -1,4 +1,4 @@
--- Refusals 12 and 13 by tables: the keys of the register instances in file order, and for each what a rule's node has to be.
+-- Refusals 12 and 13 by tables: the keys of the register instances in file order, and their kinds.
 use Prim.Native.Nat.{ℕ}
 use mathlib.Core.Bool.{Bool}
 use mathlib.Core.List.{List, [], _∷_, _++_}
@@ -23,8 +23,11 @@ module _ (keys : List ℕ) where
   unfoldable pub present : ℕ → ℕ → Bool
   present id number = ltb (positionIn id number) (length keys)
 
-  -- A register that the rule of a node of this type names: 12 where it is absent, then 13 where its entry in `kinds` is another.
+  -- A register that is named at a place: 12 where it is absent, then 13 where its entry in `kinds` is not as asked.
+  unfoldable pub registerFaultsIn : List ℕ → (ℕ → Bool) → ℕ → ℕ → ℕ → List Fault
+  registerFaultsIn kinds asked id number place =
+      unless (present id number) 12 place ++ unless (asked (getD kinds (positionIn id number) 0)) 13 place
+
+  -- A register that a rule names, whose registers have to be of this kind.
   unfoldable pub nameFaults : List ℕ → ℕ → Named → List Fault
-  nameFaults kinds type n =
-      unless (present (n .id) (n .number)) 12 (n .place)
-      ++ unless (eqb (getD kinds (positionIn (n .id) (n .number)) 0) type) 13 (n .place)
+  nameFaults kinds kind n = registerFaultsIn kinds (λ k. eqb k kind) (n .id) (n .number) (n .place)

@@ -1,6 +1,7 @@
 //! Cases aimed at one outcome, for outcomes that are rare by chance. A case
 //! may still miss its aim.
 
+use super::captures::capture_unreadable;
 use super::damage::{any_field, damaged_file};
 use super::draft::{valid_file, Field, FieldKind, FieldMap, Shape};
 use super::random::Random;
@@ -231,21 +232,23 @@ fn aimed_file(random: &mut Random, number: u8, map: &FieldMap) -> Vec<u8> {
                 }
             }
         }
-        refusal::UNFIT_REGISTER => {
-            if random.one_in(2) {
+        refusal::UNFIT_REGISTER => match random.below(6) {
+            0 => {
                 for at in map.fields_of(FieldKind::Flags) {
                     if random.one_in(2) {
                         bytes[at.at] &= !READABLE;
                     }
                 }
-            } else {
+            }
+            1..=3 => {
                 for at in map.fields_of(FieldKind::NodeType) {
                     if random.one_in(2) {
                         bytes[at.at] = 3 - bytes[at.at];
                     }
                 }
             }
-        }
+            _ => capture_unreadable(random, map, &mut bytes),
+        },
         refusal::CYCLE => turn_children_back(random, map, &mut bytes),
         _ if random.one_in(20) => return damaged_file(random, map),
         _ => {}
@@ -370,10 +373,10 @@ fn too_many_instances(random: &mut Random) -> Vec<u8> {
     bytes
 }
 
-/// A file at a limit with readings that mostly fit it, as it is or with one
-/// byte changed, cut off or added.
+/// A file at a limit, a few of them refused by 12 or 13, with readings that
+/// mostly fit it, as it is or with one byte changed, cut off or added.
 pub fn large_case(random: &mut Random) -> Case {
-    let mut file = match random.below(11) {
+    let mut file = match random.below(12) {
         0 => large::register_instances(random.between(1_000, 1_030), *random.pick(&[1, 7, 255])),
         1 => large::node_instances(random.between(250, 260)),
         2 | 3 => large::captures(random.below(3)),
@@ -382,6 +385,10 @@ pub fn large_case(random: &mut Random) -> Case {
         6 => large::children(random.between(1, large::MOST_CHILDREN), false),
         7 => large::children(1, random.one_in(2)),
         8 => large::full_counts(),
+        9 => match random.below(2) {
+            0 => large::late_absence(),
+            _ => large::late_write_only(),
+        },
         _ => {
             let shape = Shape::at_a_limit(random);
             valid_file(random, &shape).bytes

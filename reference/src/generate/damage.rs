@@ -1,5 +1,6 @@
 //! Damages valid files. A damaged file may by chance still be valid.
 
+use super::captures::{capture_a_closed, close_a_captured};
 use super::draft::{valid_file, Field, FieldKind, FieldMap, Shape};
 use super::random::Random;
 use crate::layout::{
@@ -207,8 +208,17 @@ fn change_value(random: &mut Random, map: &FieldMap, bytes: &mut [u8]) {
     }
 }
 
-/// Takes away a register's readability, or changes its node's type.
+/// Takes away a register's readability, or captures one without it, or changes
+/// a node's type.
 fn close_register(random: &mut Random, map: &FieldMap, bytes: &mut [u8]) {
+    let is_done = match random.below(4) {
+        0 => close_a_captured(random, map, bytes),
+        1 => capture_a_closed(random, map, bytes),
+        _ => false,
+    };
+    if is_done {
+        return;
+    }
     let kinds = [FieldKind::Flags, FieldKind::Flags, FieldKind::NodeType];
     if let Some(field) = any_field(random, map, bytes, &kinds) {
         let byte = &mut bytes[field.at];

@@ -207,13 +207,12 @@ struct Node {
     numbers: Vec<u8>,
 }
 
-/// A register instance with its register's type and flags.
+/// A register instance with its register's type.
 #[derive(Clone, Copy)]
 struct RegisterInstance {
     id: u32,
     number: u8,
     register_type: u8,
-    flags: u8,
 }
 
 /// A node instance, what it has rules for, and its rank: children have a
@@ -229,7 +228,8 @@ struct Draft<'a> {
     random: &'a mut Random,
     shape: Shape,
     registers: Vec<Register>,
-    register_instances: Vec<RegisterInstance>,
+    /// The instances of readable registers: captures may name these.
+    readable: Vec<RegisterInstance>,
     nodes: Vec<Node>,
     node_instances: Vec<NodeInstance>,
     /// Positions of the node instances from the lowest rank up.
@@ -240,14 +240,14 @@ struct Draft<'a> {
 impl<'a> Draft<'a> {
     fn new(random: &'a mut Random, shape: Shape) -> Self {
         let registers = registers(random, shape.register_instances);
-        let register_instances = registers
+        let readable = registers
             .iter()
+            .filter(|register| register.flags & READABLE != 0)
             .flat_map(|register| {
                 register.numbers.iter().map(|&number| RegisterInstance {
                     id: register.id,
                     number,
                     register_type: register.register_type,
-                    flags: register.flags,
                 })
             })
             .collect();
@@ -259,7 +259,7 @@ impl<'a> Draft<'a> {
             random,
             shape,
             registers,
-            register_instances,
+            readable,
             nodes,
             node_instances,
             by_rank,
@@ -325,12 +325,10 @@ impl<'a> Draft<'a> {
 
     /// The register instances that rules of nodes of the type may name.
     fn usable_registers(&self, register_type: u8) -> Vec<RegisterInstance> {
-        self.register_instances
+        self.readable
             .iter()
             .copied()
-            .filter(|register| {
-                register.register_type == register_type && register.flags & READABLE != 0
-            })
+            .filter(|register| register.register_type == register_type)
             .collect()
     }
 
@@ -340,7 +338,11 @@ impl<'a> Draft<'a> {
         let number = instance.number;
         let first_later = instance.rank + 1;
 
-        let captures = self.random.between(0, self.shape.most_captures);
+        let captures = if self.readable.is_empty() {
+            0
+        } else {
+            self.random.between(0, self.shape.most_captures)
+        };
         let children = if first_later == self.by_rank.len() {
             0
         } else {
@@ -354,7 +356,7 @@ impl<'a> Draft<'a> {
         self.map.put_byte(FieldKind::ChildCount, children as u8);
 
         for _ in 0..captures {
-            let register = *self.random.pick(&self.register_instances);
+            let register = *self.random.pick(&self.readable);
             self.map
                 .put_register(FieldKind::CaptureRegister, register.id);
             self.map

@@ -1,7 +1,10 @@
 use borrow.Author.Needs.{needs}
-use Rattle.naming.proofs.JudgedLaws.{name-absent, name-unfit, name-fit}
+use Rattle.naming.proofs.JudgedLaws.{name-judged}
 use Rattle.naming.proofs.name_fault.Statement.{statement}
 use Rattle.naming.proofs.name_fault.Tie as tie
+
+returns : tie.Need-returns
+returns c = name-judged _ _ _ _ _ _ (c .before .before .name-position .ensures) (c .before .entry .ensures) _ (c .register-fault .ensures)
 
 pub name-fault-spec : {M : Type 1} → statement M
 name-fault-spec =
@@ -9,6 +12,5 @@ name-fault-spec =
     (tie.spec
     (λ c κs. search needs)
     (λ c κs. search needs)
-    (λ c. search name-fit)
-    (λ c. search name-unfit)
-    (λ c. search name-absent))
+    (λ c κs. search needs)
+    returns)

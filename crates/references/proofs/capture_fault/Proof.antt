@@ -6,7 +6,7 @@ use Rattle.references.proofs.capture_fault.Statement.{statement}
 use Rattle.references.proofs.capture_fault.Tie as tie
 
 returns : tie.Need-returns
-returns c = capture-judged _ _ _ (sym (ap numberParsed (c .before .before .before .before .before .before .i .given .1)) ∙ c .before .before .before .before .before .before .before .before .number-at .ensures) (sym (ap byteParsed (c .before .before .n .given .1)) ∙ c .before .before .before .before .byte-at .ensures) (c .name-fault .ensures)
+returns c = capture-judged _ _ _ _ (sym (ap numberParsed (c .before .before .before .before .before .before .i .given .1)) ∙ c .before .before .before .before .before .before .before .before .number-at .ensures) (sym (ap byteParsed (c .before .before .n .given .1)) ∙ c .before .before .before .before .byte-at .ensures) (c .capture-fault .ensures)
 
 returns-2 : tie.Need-returns-2
 returns-2 c = λ before k m e. capture-there _ _ (sym (ap numberParsed (c .before .before .before .before .before .i .given .1)) ∙ c .before .before .before .before .before .before .before .number-at .ensures) (sym (ap byteParsed (c .before .n2 .given .1)) ∙ c .before .before .before .byte-at .ensures) before k m e

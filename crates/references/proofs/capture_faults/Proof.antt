@@ -11,10 +11,10 @@ use Rattle.references.proofs.capture_faults.Statement.{statement}
 use Rattle.references.proofs.capture_faults.Tie as tie
 
 abbrev Inv-loop : tie.InvT-loop
-Inv-loop s at n keys left₀ place₀ left place = Judging (captureAt s) (captureFaultsIn keys) (rowAt (captureAt s) n [] at) left place
+Inv-loop s at n keys kinds left₀ place₀ left place = Judging (captureAt s) (captureFaultsIn keys kinds) (rowAt (captureAt s) n [] at) left place
 
 abbrev μ-loop : tie.MeasureT-loop
-μ-loop s at n keys left₀ place₀ left place = left
+μ-loop s at n keys kinds left₀ place₀ left place = left
 
 loop-holds : tie.Need-loop-holds Inv-loop μ-loop
 loop-holds c = judging-begin _ _ _ _

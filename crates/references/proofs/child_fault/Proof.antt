@@ -12,7 +12,7 @@ returns c =
     let p3 = p2 .before .before in
     let p4 = p3 .before .before in
     let p5 = p4 .before .before in
-    child-judged _ _ (sym (ap byteParsed (p4 .b .given .1)) ∙ p5 .byte-at .ensures) (sym (ap numberParsed (p2 .i .given .1)) ∙ p3 .number-at .ensures) _ (sym (ap byteParsed (c .before .before .n .given .1)) ∙ p1 .byte-at2 .ensures) (c .name-fault .ensures)
+    child-judged _ _ (sym (ap byteParsed (p4 .b .given .1)) ∙ p5 .byte-at .ensures) (sym (ap numberParsed (p2 .i .given .1)) ∙ p3 .number-at .ensures) _ (sym (ap byteParsed (c .before .before .n .given .1)) ∙ p1 .byte-at2 .ensures) (c .child-name-fault .ensures)
 
 returns-2 : tie.Need-returns-2
 returns-2 c =

@@ -370,11 +370,13 @@ fn main() {
     let duplicate = large::late_duplicate(Order::Rising);
     let duplicate_shuffled = large::late_duplicate(Order::Shuffled);
     let absence = large::late_absence();
+    let write_only = large::late_write_only();
     let cycle = large::late_cycle();
     let refused = vec![
         refused_check(7, "1,024 registers, the last ID twice", &duplicate),
         refused_check(7, "the same, IDs shuffled", &duplicate_shuffled),
         refused_check(12, "captures, the last one absent", &absence),
+        refused_check(13, "captures, the last one write-only", &write_only),
         refused_check(2, "captures, the last byte cut off", but_one(&captures)),
         refused_check(2, "deep expressions, the last byte cut off", but_one(&deep)),
         refused_check(14, "60 children each, a cycle of the last two", &cycle),

@@ -3,7 +3,7 @@ use mathlib.Core.Path.{sym, _∙_, ap}
 use borrow.Author.Needs.{needs}
 use Rattle.fields.proofs.SeenLaws.{new-nothing}
 use Rattle.nodes.specs.Nodes.{nodeHeadParsed}
-use Rattle.index.specs.Rows.{wantedKind}
+use Rattle.tables.specs.Kinds.{wantedKind}
 use Rattle.index.proofs.Again.{node-head-is, node-head-again, not-refused}
 use Rattle.index.proofs.node_rows.head_at.Statement.{statement}
 use Rattle.index.proofs.node_rows.head_at.Tie as tie

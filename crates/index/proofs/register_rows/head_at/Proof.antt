@@ -3,7 +3,7 @@ use mathlib.Core.Path.{sym, _∙_, ap}
 use borrow.Author.Needs.{needs}
 use Rattle.fields.proofs.SeenLaws.{new-nothing}
 use Rattle.registers.specs.Registers.{registerHeadParsed}
-use Rattle.index.specs.Rows.{kindOf}
+use Rattle.tables.specs.Kinds.{kindOf}
 use Rattle.index.proofs.Again.{head-is, register-head-again, not-refused}
 use Rattle.index.proofs.register_rows.head_at.Statement.{statement}
 use Rattle.index.proofs.register_rows.head_at.Tie as tie

@@ -1,13 +1,23 @@
--- What a table holds of a register's type and flags.
+-- The laws of what a table keeps of a register's type and flags.
 use Prim.Native.Nat.{ℕ, _+_, _*_, _/_, _%_, _<_}
 use mathlib.Core.Bool.{Bool, true, false, _&&_}
-use mathlib.Core.Path.{_≡_, refl}
+use mathlib.Core.Path.{_≡_, refl, ap}
 use native.Mathlib.Omega.{arith}
 use lib.Dec.{eqb}
 use borrow.Author.Tests.{eq-eqb, ne-eqb, eqb-true, eqb-false}
 use Rattle.numbers.specs.Bits.{bitOf}
 use Rattle.format.specs.Fields.{readable}
-use Rattle.index.specs.Rows.{kindOf, wantedKind}
+use Rattle.tables.specs.Kinds.{kindOf, wantedKind, readableKind}
+
+-- The type is half of the kind.
+pub kind-type : (t f n : ℕ) → f < 256 → n ≡ kindOf t f → n / 2 ≡ t
+unfolding kindOf
+kind-type t f n h e = omega arith
+
+-- A register's kind is a readable one exactly when the register is readable.
+pub kind-readable : (t f : ℕ) → readableKind (kindOf t f) ≡ readable f
+unfolding kindOf readableKind readable bitOf
+kind-readable t f = ap (λ k. eqb k 1) (let z : (t * 2 + f / 128) % 2 ≡ f / 128 % 2 = omega arith in z)
 
 -- A register's kind is the wanted one exactly when it is readable and of the type.
 pub kind-same : (t f type : ℕ) → f < 256 → eqb (kindOf t f) (wantedKind type) ≡ eqb t type && readable f
