@@ -76,7 +76,8 @@ uint64_t lutemarble_address(const uint8_t *file, size_t file_bytes, uint64_t id,
                             size_t out_places);
 
 /* Isolation for an attention type. `words` are the readings and `read` their read bytes (1 read, 0 unread), one each for
- * every register instance in file order. `list` gets 8 bytes for each listed bit: attention type, bit, node ID (2,
+ * every register instance in file order. Listed are the active bits of reached node instances that have no child, or
+ * whose child has no active bit for the type. `list` gets 8 bytes for each: attention type, bit, node ID (2,
  * big-endian), instance, three zeros; every byte after these, and every byte of a list whose call is refused, is as it was.
  * `out` gets 4 numbers: refusal number, place (for 19 the number of records that there are), and the numbers of records
  * and steps (both 0 where it is refused).

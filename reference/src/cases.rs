@@ -1,5 +1,10 @@
-//! Hand-made checker cases. The verdicts are written from the papers; offsets
-//! stand beside the pieces that files are put together from.
+//! Hand-made checker cases, and isolation calls in a module of their own. The
+//! verdicts are written from the papers; offsets stand beside the pieces that
+//! files are put together from.
+
+mod isolation;
+
+pub use isolation::Isolation;
 
 use crate::hex;
 
@@ -82,6 +87,12 @@ const FIFTEEN_NOTS: &str = "12 12 12 12 12 12 12 12 12 12 12 12 12 12 12";
 /// The register expression of B1.
 const REGISTER_1: &str = "01 00 00 01 00";
 
+/// The isolation calls.
+pub fn isolations() -> Vec<Isolation> {
+    isolation::all()
+}
+
+/// The checker cases.
 pub fn all() -> Vec<Case> {
     let mut cases = Cases(Vec::new());
     bench_samples(&mut cases);

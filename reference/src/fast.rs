@@ -545,13 +545,12 @@ struct NodeInstance {
     children_end: u32,
     /// The bits that have a child.
     with_child: u64,
-    /// The bits to list.
+    /// The bits to list; all active bits while the instance waits.
     listed: u64,
     id: u16,
     number: u8,
     /// Bit t is set if there is a rule for attention type t.
     rule_types: u8,
-    reached: bool,
 }
 
 struct Chip<'a> {
@@ -838,7 +837,6 @@ impl<'a> Chip<'a> {
             id,
             number,
             rule_types,
-            reached: false,
         });
         Ok(())
     }
@@ -1051,59 +1049,63 @@ impl<'a> Chip<'a> {
     }
 
     /// Puts the bits to list of each reached instance, and returns how many
-    /// they are, and the steps.
+    /// they are, and the steps. The word of an instance is found when it is
+    /// reached, so that the bits above it need only one look at it.
     fn isolate_from(
         &mut self,
         root: usize,
         words: &[u64],
         read: &[u8],
     ) -> Result<(usize, usize), Refusal> {
-        let mut waiting = [0u16; MAX_NODE_INSTANCES];
-        let mut first_unread: Option<(usize, usize)> = None;
-        let mut records = 0;
-        let mut steps = 0;
-
-        waiting[0] = root as u16;
-        self.node_instances[root].reached = true;
-        let mut left = 1;
-        while left > 0 {
-            left -= 1;
-            let position = usize::from(waiting[left]);
-            steps += 1;
-            let mut at = self.node_instances[position].rule_at as usize;
-            if at == 0 {
-                continue;
-            }
-            let active = match self.evaluate(&mut at, words, read) {
-                Ok(active) => active,
-                Err(place) => {
-                    let unread = (position, place);
-                    first_unread = Some(first_unread.map_or(unread, |first| first.min(unread)));
-                    continue;
-                }
-            };
-            let instance = &mut self.node_instances[position];
-            instance.listed = active & !instance.with_child;
-            records += instance.listed.count_ones() as usize;
-            if active & instance.with_child == 0 {
-                continue;
-            }
+        let mut walk = Walk {
+            seen: [Seen::Not; MAX_NODE_INSTANCES],
+            waiting: [0; MAX_NODE_INSTANCES],
+            left: 0,
+            first_unread: None,
+            records: 0,
+            steps: 0,
+        };
+        let value = self.value_of(root, words, read);
+        walk.reach(root, &mut self.node_instances[root], value);
+        while walk.left > 0 {
+            walk.left -= 1;
+            let position = usize::from(walk.waiting[walk.left]);
+            let instance = &self.node_instances[position];
+            let active = instance.listed;
             let at = instance.children_at as usize;
             let children = &self.children[self.children_of(position)];
             let (entries, _) = self.file[at..].as_chunks::<4>();
+            let mut with_showing_child = 0;
             for (&child, &[bit, ..]) in children.iter().zip(entries) {
-                let reached = &mut self.node_instances[usize::from(child)].reached;
-                if active & mask_of(bit) != 0 && !*reached {
-                    *reached = true;
-                    waiting[left] = child;
-                    left += 1;
+                let followed = active & mask_of(bit);
+                // It is below that; to say so spares the checks of the bounds.
+                let child = usize::from(child) % MAX_NODE_INSTANCES;
+                if walk.seen[child] == Seen::Not && followed != 0 {
+                    let value = self.value_of(child, words, read);
+                    walk.reach(child, &mut self.node_instances[child], value);
+                }
+                if walk.seen[child] == Seen::Showing {
+                    with_showing_child |= followed;
                 }
             }
+            let listed = active & !with_showing_child;
+            self.node_instances[position].listed = listed;
+            walk.records += listed.count_ones() as usize;
         }
 
-        match first_unread {
+        match walk.first_unread {
             Some((_, place)) => Err(Refusal::new(refusal::REGISTER_UNREAD, place)),
-            None => Ok((records, steps)),
+            None => Ok((walk.records, walk.steps)),
+        }
+    }
+
+    /// The active bits of an instance, or the place of the first unread
+    /// register of its wanted rule.
+    #[inline]
+    fn value_of(&self, position: usize, words: &[u64], read: &[u8]) -> Result<u64, usize> {
+        match self.node_instances[position].rule_at as usize {
+            0 => Ok(0),
+            mut at => self.evaluate(&mut at, words, read),
         }
     }
 
@@ -1164,6 +1166,59 @@ impl<'a> Chip<'a> {
                 Ok(shifted.unwrap_or(0))
             }
         }
+    }
+}
+
+/// What isolation has seen of a node instance.
+#[derive(Clone, Copy, PartialEq, Eq)]
+enum Seen {
+    /// It is not reached, or not yet.
+    Not,
+    Silent,
+    /// It has an active bit, or an unread register.
+    Showing,
+}
+
+/// How far isolation is.
+struct Walk {
+    /// By the instances' positions.
+    seen: [Seen; MAX_NODE_INSTANCES],
+    /// The first `left` are reached instances with active bits that have a
+    /// child, and their children are still to be looked at.
+    waiting: [u16; MAX_NODE_INSTANCES],
+    left: usize,
+    /// The position of an instance and the place in its rule.
+    first_unread: Option<(usize, usize)>,
+    records: usize,
+    steps: usize,
+}
+
+impl Walk {
+    /// An instance is reached, and this is the value of its rule. All its
+    /// active bits are to list, but for those of a waiting instance whose child
+    /// turns out to show something.
+    #[inline]
+    fn reach(&mut self, position: usize, instance: &mut NodeInstance, value: Result<u64, usize>) {
+        self.steps += 1;
+        self.seen[position] = match value {
+            Ok(0) => Seen::Silent,
+            Ok(active) => {
+                instance.listed = active;
+                if active & instance.with_child != 0 {
+                    self.waiting[self.left] = position as u16;
+                    self.left += 1;
+                } else {
+                    self.records += active.count_ones() as usize;
+                }
+                Seen::Showing
+            }
+            Err(place) => {
+                let unread = (position, place);
+                let first = self.first_unread.map_or(unread, |first| first.min(unread));
+                self.first_unread = Some(first);
+                Seen::Showing
+            }
+        };
     }
 }
 

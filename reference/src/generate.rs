@@ -9,6 +9,7 @@ mod damage;
 mod draft;
 mod misfit;
 mod random;
+mod silent;
 
 pub use aimed::{aimed_case, full_list_case, large_case, Sizes, HIGHEST_NUMBER};
 pub use damage::damaged_file;
@@ -45,13 +46,17 @@ pub fn case(random: &mut Random) -> Case {
         _ => damaged_file(random, &map),
     };
     let (words, read) = readings(random, register_instances);
-    Case {
+    let mut case = Case {
         attention_type: attention_type(random, &attention_types),
         file,
         words,
         read,
         room: room(random),
+    };
+    if random.one_in(2) {
+        silent::silence_children(random, &mut case);
     }
+    case
 }
 
 fn too_long(random: &mut Random, mut file: Vec<u8>) -> Vec<u8> {

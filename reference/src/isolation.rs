@@ -1,11 +1,12 @@
-//! Isolation: from a root down to the active bits without a child.
+//! Isolation: from a root down to the active bits without a child, and those
+//! whose child shows nothing.
 
 use crate::checker::Accepted;
 use crate::expression::{bit_is_set, Unread};
 use crate::layout::{is_attention_type, HIGHEST_BIT};
 use crate::readings::{self, Readings};
 use crate::refusal::{self, Refusal};
-use crate::tree::NodeInstance;
+use crate::tree::{Child, NodeInstance, NodeName};
 
 /// Attention type, bit, node ID (2), instance, three zeros.
 pub const RECORD_BYTES: usize = 8;
@@ -42,6 +43,33 @@ pub fn isolate_with_readings_file(
     accepted.isolate_from(root, attention_type, readings, list)
 }
 
+/// How many of the bits to list have a child, which then shows nothing. They
+/// count also where the list has no room for them.
+pub fn bits_above_silent(file: &[u8], attention_type: u8, words: &[u64], read: &[u8]) -> usize {
+    let isolated = |list: &mut [Record]| {
+        let list = list.as_flattened_mut();
+        isolate(file, attention_type, words, read, list)
+    };
+    let needed = match isolated(&mut []) {
+        Err(refusal) if refusal.number == refusal::NO_ROOM => refusal.place,
+        _ => return 0,
+    };
+    let mut list = vec![[0; RECORD_BYTES]; needed];
+    let (Ok(_), Ok(accepted)) = (isolated(&mut list), Accepted::read(file)) else {
+        return 0;
+    };
+    let has_child = |record: &&Record| {
+        let [_, bit, high, low, instance, ..] = **record;
+        let id = u16::from_be_bytes([high, low]);
+        let position = accepted.index.node_instance(NodeName { id, instance });
+        position.is_some_and(|position| {
+            let mut children = accepted.tree.node_instances[position].children.iter();
+            children.any(|child| child.bit == bit)
+        })
+    };
+    list.iter().filter(has_child).count()
+}
+
 /// What isolation knows of one node instance.
 #[derive(Clone, Copy, PartialEq, Eq)]
 enum Mark {
@@ -73,14 +101,21 @@ impl Accepted {
     ) -> Result<(usize, usize), Refusal> {
         let marks = self.walk(root, attention_type, readings);
 
+        // The active bits of each instance that is reached.
+        let mut active = vec![None; marks.len()];
+        for (active, mark) in active.iter_mut().zip(marks) {
+            let Mark::Done(bits) = mark else { continue };
+            let bits = bits.map_err(|unread| Refusal::new(refusal::REGISTER_UNREAD, unread.at))?;
+            *active = Some(bits);
+        }
+
         let mut records = Vec::new();
         let mut steps = 0;
-        for (instance, mark) in self.tree.node_instances.iter().zip(marks) {
-            let Mark::Done(active) = mark else { continue };
+        for (instance, &bits) in self.tree.node_instances.iter().zip(&active) {
+            let Some(bits) = bits else { continue };
             steps += 1;
-            let active =
-                active.map_err(|unread| Refusal::new(refusal::REGISTER_UNREAD, unread.at))?;
-            records.extend(listed(instance, attention_type, active));
+            let listed = bits & !self.with_showing_child(instance, &active);
+            records.extend(records_of(instance, attention_type, listed));
         }
 
         if list.len() / RECORD_BYTES < records.len() {
@@ -132,21 +167,32 @@ impl Accepted {
             None => Ok(0),
         }
     }
+
+    /// The bits of an instance whose child has an active bit. The other active
+    /// bits are listed: "active bits without a child, and those whose child
+    /// shows nothing".
+    fn with_showing_child(&self, instance: &NodeInstance, active: &[Option<u64>]) -> u64 {
+        let shows_something = |child: &&Child| {
+            let position = self.index.node_instance(child.node);
+            position.is_some_and(|position| active[position].unwrap_or(0) != 0)
+        };
+        instance
+            .children
+            .iter()
+            .filter(shows_something)
+            .fold(0, |word, child| word | 1u64 << (HIGHEST_BIT - child.bit))
+    }
 }
 
-/// The records of an instance's active bits without a child, from bit 0 up.
-fn listed(
+/// The records of these bits of an instance, from bit 0 up.
+fn records_of(
     instance: &NodeInstance,
     attention_type: u8,
-    active: u64,
+    bits: u64,
 ) -> impl Iterator<Item = Record> + '_ {
-    let with_child = instance
-        .children
-        .iter()
-        .fold(0, |word, child| word | 1u64 << (HIGHEST_BIT - child.bit));
     let [high, low] = instance.name.id.to_be_bytes();
     (0..=HIGHEST_BIT)
-        .filter(move |&bit| bit_is_set(active & !with_child, bit))
+        .filter(move |&bit| bit_is_set(bits, bit))
         .map(move |bit| {
             [
                 attention_type,

@@ -246,6 +246,13 @@ pub fn children(children: usize, backward: bool) -> Vec<u8> {
     graph(&row(children, &places), places[0])
 }
 
+/// Readings for [`children`] forward: every fourth instance has all bits, the
+/// first one of them the root's, and the others show nothing.
+pub fn every_fourth() -> Vec<u64> {
+    let word = |position| if position % 4 == 0 { u64::MAX } else { 0 };
+    (0..MAX_NODE_INSTANCES).map(word).collect()
+}
+
 /// The children of each place: the `children` places that follow it in the
 /// row, or as many as there are.
 fn row(children: usize, places: &[usize]) -> Vec<Vec<usize>> {
@@ -413,7 +420,7 @@ pub const MOST_CHILDREN: usize = 60;
 mod tests {
     use super::*;
     use crate::refusal::Refusal;
-    use crate::{check, hex, isolate};
+    use crate::{bits_above_silent, check, hex, isolate};
 
     #[test]
     fn b1_is_the_sample() {
@@ -507,11 +514,28 @@ mod tests {
         let mut list = vec![0; 64 * 64 * 8];
         let answer = isolate(&file, ATTENTION_TYPE, &words, &[1; 255], &mut list);
         assert_eq!(answer, Ok((64 * 64, 65)));
-        // One operand of the OR, the first register, and one child.
+        // One operand of the OR, the first register, and one child, which shows
+        // nothing.
         let mut words = [0; 255];
         words[0] = 1;
         let answer = isolate(&file, ATTENTION_TYPE, &words, &[1; 255], &mut list);
-        assert_eq!(answer, Ok((0, 2)));
+        assert_eq!(answer, Ok((1, 2)));
+        assert_eq!(list[..8], [3, 63, 0, 1, 0, 0, 0, 0]);
+    }
+
+    #[test]
+    fn most_children_are_silent() {
+        let file = children(MOST_CHILDREN, false);
+        let words = every_fourth();
+        let mut list = vec![0; 256 * 64 * 8];
+        let answer = isolate(&file, ATTENTION_TYPE, &words, &[1; 256], &mut list);
+        // Each of 64 instances has 64 active bits. 15 of these have a child that
+        // shows something, and fewer near the end of the row.
+        let followed: usize = (0..64).map(|rank| (63 - rank).min(15)).sum();
+        assert_eq!(answer, Ok((64 * 64 - followed, 256)));
+        let above_silent = bits_above_silent(&file, ATTENTION_TYPE, &words, &[1; 256]);
+        let entries: usize = (0..64).map(|rank| (255 - 4 * rank).min(60)).sum();
+        assert_eq!(above_silent, entries - followed);
     }
 
     #[test]

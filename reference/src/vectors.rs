@@ -9,7 +9,7 @@ use crate::isolation::RECORD_BYTES;
 use crate::layout::{self, MAX_FILE_BYTES};
 use crate::readings::READ;
 use crate::refusal::{self, Refusal};
-use crate::{address, cases, check, isolate, large};
+use crate::{address, bits_above_silent, cases, check, isolate, large};
 
 pub const KEYWORD: [u8; 8] = *b"LUTEVECT";
 /// Keyword, place of the first case (4), number of cases (4).
@@ -47,6 +47,17 @@ pub struct Vector<'a> {
     pub expected: [u32; EXPECTED],
     /// The records: what the list begins with after the call.
     pub records: &'a [u8],
+}
+
+impl Vector<'_> {
+    /// How many of the bits that isolation is to list have a child that shows
+    /// nothing; 0 for other calls.
+    pub fn bits_above_silent(&self) -> usize {
+        match self.kind {
+            Kind::Isolation => bits_above_silent(self.file, self.selector, &self.words, self.read),
+            _ => 0,
+        }
+    }
 }
 
 /// The answer of a check as the vectors have it.
@@ -488,6 +499,53 @@ impl Writer {
         self.store_isolation(&case);
         case.room -= 1;
         self.store_isolation(&case);
+        // As many, one of them the bit above an instance that shows nothing.
+        case.words[65..].fill(0);
+        self.store_isolation(&case);
+    }
+
+    /// Large files in which most children that are reached show nothing.
+    fn silent_children(&mut self) {
+        let last = layout::MAX_NODE_INSTANCES - 1;
+        for (file, instances, root) in [
+            (large::children(1, false), 256, 0),
+            (large::children(1, true), 256, last),
+            (large::children(large::MOST_CHILDREN, true), 256, last),
+            (large::full_counts(), 255, 0),
+        ] {
+            let case = |words: Vec<u64>, room| Case {
+                file: file.clone(),
+                attention_type: large::ATTENTION_TYPE,
+                read: vec![READ; words.len()],
+                words,
+                room,
+            };
+            // The root alone has active bits, and then every fourth instance
+            // has.
+            let mut words = vec![0; instances];
+            words[root] = u64::MAX;
+            self.store_isolation(&case(words.clone(), 64 * RECORD_BYTES + 3));
+            self.store_isolation(&case(words, 64 * RECORD_BYTES - 1));
+            let mut words = large::every_fourth();
+            words.truncate(instances);
+            if root == last {
+                words.reverse();
+            }
+            self.store_isolation(&case(words, 600));
+        }
+    }
+
+    /// Calls with answers written by hand.
+    fn hand_made_calls(&mut self) {
+        for call in cases::isolations() {
+            self.store_isolation(&Case {
+                file: call.file,
+                attention_type: large::ATTENTION_TYPE,
+                words: call.words,
+                read: call.read,
+                room: call.room,
+            });
+        }
     }
 
     /// The address of a captured register that is not readable, if the file is
@@ -501,6 +559,19 @@ impl Writer {
                 .fold(0, |id, &byte| id << 8 | u64::from(byte));
             self.store_address(file, id, capture[3]);
         }
+    }
+
+    /// A case whose file mostly is refused by the number, or accepted if it is
+    /// 0.
+    fn met_case(&mut self, number: u8) -> Case {
+        let mut case = generate::aimed_case(&mut self.random, number, Sizes::Small);
+        for _ in 0..20 {
+            if check(&case.file).map_or_else(|refusal| refusal.number, |_| 0) == number {
+                break;
+            }
+            case = generate::aimed_case(&mut self.random, number, Sizes::Small);
+        }
+        case
     }
 
     fn checks_and_addresses(&mut self) {
@@ -523,7 +594,7 @@ impl Writer {
         }
         for round in 0..150 {
             let number = if round % 10 == 0 { round / 10 } else { 0 };
-            let case = generate::aimed_case(&mut self.random, number as u8, Sizes::Small);
+            let case = self.met_case(number as u8);
             if case.file.len() > MOST_OF_A_CASE {
                 continue;
             }
@@ -625,8 +696,10 @@ pub fn build(seed: u64) -> Vec<u8> {
         room: 16,
     };
     writer.store_isolation(&b1);
+    writer.hand_made_calls();
     writer.small_cases();
     writer.limits();
+    writer.silent_children();
     writer.too_many_instances();
     writer.checks_and_addresses();
     writer.windows();

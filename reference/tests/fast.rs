@@ -68,6 +68,24 @@ fn hand_made_cases() {
 }
 
 #[test]
+fn hand_made_calls() {
+    let mut random = Random::new(47);
+    for case in cases::isolations() {
+        let case = Case {
+            file: case.file,
+            attention_type: large::ATTENTION_TYPE,
+            words: case.words,
+            read: case.read,
+            room: case.room,
+        };
+        compare_isolation(&case);
+        for _ in 0..4 {
+            compare_report(&mut random, &case);
+        }
+    }
+}
+
+#[test]
 fn random_cases() {
     let mut random = Random::new(41);
     let mut seen = [0; HIGHEST_NUMBER as usize + 1];
@@ -97,6 +115,17 @@ fn large_cases() {
     }
     for _ in 0..60 {
         let case = generate::full_list_case(&mut random);
+        compare_isolation(&case);
+        compare_report(&mut random, &case);
+    }
+    for children in [1, 2, 4, large::MOST_CHILDREN] {
+        let case = Case {
+            file: large::children(children, false),
+            attention_type: large::ATTENTION_TYPE,
+            words: large::every_fourth(),
+            read: vec![1; 256],
+            room: 256 * 64 * 8,
+        };
         compare_isolation(&case);
         compare_report(&mut random, &case);
     }
@@ -182,7 +211,13 @@ fn graphs() {
         let expected = check(&file);
         assert_eq!(fast::check(&file), expected);
         cyclic += usize::from(expected.is_err());
-        let words: Vec<u64> = (0..count).map(|_| random.next()).collect();
+        let one_in = random.between(1, 4);
+        let words: Vec<u64> = (0..count)
+            .map(|_| match random.one_in(one_in) {
+                true => random.next(),
+                false => 0,
+            })
+            .collect();
         let case = Case {
             file,
             attention_type: large::ATTENTION_TYPE,

@@ -2,9 +2,11 @@
 
 use std::collections::{BTreeMap, BTreeSet};
 
-use reference::generate::{self, Random};
+use reference::generate::{self, Case, Random};
 use reference::tree::{Expression, NodeInstance, NodeName, Operation, RegisterName, Tree};
-use reference::{hex, isolate, Accepted, Refusal};
+use reference::{
+    bits_above_silent, cases, hex, isolate, layout, readings, report, Accepted, Refusal,
+};
 
 const START: &str = "43 48 49 50 44 41 54 41 00 00 00 01 01";
 /// Four registers of ID 1 to 4, each with instance 0: 13 to 63.
@@ -128,8 +130,97 @@ fn a_child_without_the_rule_is_reached_and_silent() {
         00 01 01 01 00 00 01 01 03 01 00 00 01 00 00 00 02 00 \
         00 02 01 01 00 00 01 00 01 01 00 00 02 00";
     let file = hex::decode(&[START, REGISTERS, nodes, ROOTS].concat()).unwrap();
-    let (answer, list) = isolated(&file, &[BIT_0, BIT_0, 0, 0], &[1, 0, 0, 0], 8);
-    assert_eq!((answer, list), (Ok((0, 2)), vec![0xEE; 8]));
+    let expected = vec![3, 0, 0, 1, 0, 0, 0, 0];
+    assert_eq!(
+        isolated(&file, &[BIT_0, BIT_0, 0, 0], &[1, 0, 0, 0], 8),
+        (Ok((1, 2)), expected)
+    );
+    assert_eq!(
+        isolated(&file, &[BIT_0, BIT_0, 0, 0], &[1, 0, 0, 0], 7),
+        (refused(19, 1), vec![0xEE; 7])
+    );
+}
+
+#[test]
+fn the_silent_bottom_of_a_diamond() {
+    // Node 3 stands before node 2.
+    let mut expected = vec![3, 8, 0, 3, 0, 0, 0, 0, 3, 8, 0, 2, 0, 0, 0, 0];
+    let words = [BIT_0 | BIT_63, BIT_8, BIT_8, 0];
+    assert_eq!(
+        isolated(&diamond(), &words, &[1; 4], 16),
+        (Ok((2, 4)), expected.clone())
+    );
+    // With another bit of each.
+    expected.splice(8..8, [3, 9, 0, 3, 0, 0, 0, 0]);
+    expected.splice(16..16, [3, 7, 0, 2, 0, 0, 0, 0]);
+    let words = [BIT_0 | BIT_63, BIT_8 | 1 << 56, BIT_8 | 1 << 54, 0];
+    assert_eq!(
+        isolated(&diamond(), &words, &[1; 4], 32),
+        (Ok((4, 4)), expected)
+    );
+    assert_eq!(
+        isolated(&diamond(), &words, &[1; 4], 31),
+        (refused(19, 4), vec![0xEE; 31])
+    );
+    // Unread, it is refused whatever the room.
+    assert_eq!(
+        isolated(&diamond(), &words, &[1, 1, 1, 0], 0),
+        (refused(18, 101), vec![])
+    );
+}
+
+#[test]
+fn the_silent_sides_of_a_diamond() {
+    // Both of them; node 4 is not reached, and may be unread.
+    let words = [u64::MAX, 0, 0, u64::MAX];
+    let (answer, list) = isolated(&diamond(), &words, &[1, 1, 1, 0], 64 * 8);
+    assert_eq!(answer, Ok((64, 3)));
+    let bits = list.chunks(8).map(|record| (record[3], record[1]));
+    assert!(bits.eq((0..64).map(|bit| (1, bit))));
+    // One of them.
+    let words = [BIT_0 | BIT_63, 0, BIT_8, BIT_63];
+    let expected = vec![3, 0, 0, 1, 0, 0, 0, 0, 3, 63, 0, 4, 0, 0, 0, 0];
+    assert_eq!(
+        isolated(&diamond(), &words, &[1; 4], 16),
+        (Ok((2, 4)), expected)
+    );
+}
+
+#[test]
+fn a_silent_root_lists_nothing() {
+    let words = [0, u64::MAX, u64::MAX, u64::MAX];
+    assert_eq!(
+        isolated(&diamond(), &words, &[1, 0, 0, 0], 0),
+        (Ok((0, 1)), vec![])
+    );
+}
+
+#[test]
+fn hand_made_calls() {
+    let mut names = BTreeSet::new();
+    for case in cases::isolations() {
+        let mut list = vec![0xEE; case.room];
+        let answer = isolate(&case.file, 3, &case.words, &case.read, &mut list);
+        let mut expected_list = vec![0xEE; case.room];
+        if let Ok(found) = &case.answer {
+            let records = found.records.concat();
+            expected_list[..records.len()].copy_from_slice(&records);
+        }
+        let expected = case.answer.clone();
+        let expected = expected.map(|found| (found.records.len(), found.steps));
+        assert_eq!(answer, expected, "{}", case.name);
+        assert_eq!(list, expected_list, "{}", case.name);
+
+        // The station's list has room for all of them.
+        if !matches!(case.answer, Err(Refusal { number: 19, .. })) {
+            let tree = layout::read(&case.file).unwrap();
+            let readings_file = readings::encode(&tree, &case.words, &case.read);
+            let text = report::report(&case.file, 3, &readings_file);
+            assert_eq!(text, report::text(&case.answer), "{}", case.name);
+        }
+        assert!(names.insert(case.name));
+    }
+    assert!(names.len() >= 90, "{}", names.len());
 }
 
 // The definition by chains, bit by bit and without marks.
@@ -205,7 +296,13 @@ impl Model<'_> {
                 .is_some_and(|expression| self.bit(expression, i32::from(bit)))
     }
 
-    /// Every chain that begins at the instance, one link after the other.
+    fn shows_nothing(&self, instance: usize) -> bool {
+        (0..64).all(|bit| !self.is_active(instance, bit))
+    }
+
+    /// Every chain that begins at the instance, one link after the other, and
+    /// the bits to list at the ends of chains: "active bits without a child, and
+    /// those whose child shows nothing".
     fn follow(
         &self,
         instance: usize,
@@ -216,9 +313,13 @@ impl Model<'_> {
         for bit in 0..64 {
             if self.is_active(instance, bit) {
                 let children = &self.tree.node_instances[instance].children;
-                match children.iter().find(|child| child.bit == bit) {
-                    Some(child) => self.follow(self.instance(child.node), reached, ends),
-                    None => drop(ends.insert((instance, bit))),
+                let child = children.iter().find(|child| child.bit == bit);
+                let child = child.map(|child| self.instance(child.node));
+                if child.is_none_or(|child| self.shows_nothing(child)) {
+                    ends.insert((instance, bit));
+                }
+                if let Some(child) = child {
+                    self.follow(child, reached, ends);
                 }
             }
         }
@@ -254,6 +355,7 @@ fn is_small(tree: &Tree) -> bool {
 fn isolation_agrees_with_the_chains() {
     let mut random = Random::new(3);
     let mut seen = BTreeMap::new();
+    let mut above_silent = 0;
     for _ in 0..40_000 {
         let case = generate::case(&mut random);
         let mut list = vec![0xEE; case.room];
@@ -276,14 +378,18 @@ fn isolation_agrees_with_the_chains() {
             let mut root = root.filter(|root| root.attention_type == case.attention_type);
             let root = model.instance(root.next().unwrap().node);
             assert_eq!(answer, model.answer(root, &mut expected_list));
+            let Case { words, read, .. } = &case;
+            let bits = bits_above_silent(&case.file, case.attention_type, words, read);
+            above_silent += usize::from(bits > 0);
         }
         assert_eq!(list, expected_list);
         *seen.entry(number).or_insert(0) += 1;
     }
     assert!(seen[&0] > 5_000 && seen[&18] > 500 && seen[&19] > 500);
+    assert!(above_silent > 1_000, "{above_silent}");
 }
 
-fn model<'a>(accepted: &'a Accepted, case: &generate::Case) -> Model<'a> {
+fn model<'a>(accepted: &'a Accepted, case: &Case) -> Model<'a> {
     let tree = &accepted.tree;
     let instances = tree.register_instances.iter();
     let values = instances

@@ -176,6 +176,74 @@ fn diamond() {
     );
 }
 
+/// Node 1 has node 2, of instance 200, at bits 0 and 9 as its child, and no
+/// child at bit 5. It has these three bits active where its register has bit 0.
+/// Node 2 has this rule for type 3 and a constant for type 4: 79 its number byte,
+/// 83 the type of the rule, 84 its expression.
+fn with_a_child(rule: &str) -> Vec<u8> {
+    let nodes = "4E 4F 44 45 00 02 00 01 01 01 00 00 01 02 \
+        03 11 03 01 00 00 01 00 14 05 01 00 00 01 00 14 09 01 00 00 01 00 \
+        00 00 02 C8 09 00 02 C8 \
+        00 02 01 01 C8 00 02 00 03";
+    let other = "04 02 FF FF FF FF FF FF FF FF 52 4F 4F 54 01 03 00 01 00";
+    let mut file = large::B1[..31].to_vec();
+    file.extend(hex::decode(&[nodes, rule, other].concat()).unwrap());
+    file
+}
+
+#[test]
+fn a_child_that_shows_nothing() {
+    let listed = "type 3 node 1 inst 0 bit 0\n\
+        type 3 node 1 inst 0 bit 5\n\
+        type 3 node 1 inst 0 bit 9\n\
+        steps 2\n";
+    // The constant 0, and what is beyond the register.
+    for rule in ["02 00 00 00 00 00 00 00 00", "13 40 01 00 00 01 00"] {
+        assert_eq!(of_file(&with_a_child(rule)), listed);
+    }
+    // A rule for type 4 and one for type 2, and none for 3.
+    let mut file = with_a_child("02 FF FF FF FF FF FF FF FF");
+    assert_eq!(lines(&of_file(&file)), (1 + 64 + 1, "steps 2"));
+    file[83] = 2;
+    assert_eq!(of_file(&file), listed);
+    // The child shows bit 0.
+    let file = with_a_child("01 00 00 01 00");
+    assert_eq!(
+        of_file(&file),
+        "type 3 node 1 inst 0 bit 5\n\
+         type 3 node 2 inst 200 bit 0\n\
+         steps 2\n"
+    );
+    // The root shows nothing.
+    let silent = report(&file, 3, &reading(1, NO_BIT));
+    assert_eq!(silent, "steps 1\n");
+}
+
+#[test]
+fn an_unread_child() {
+    // Register 2 is read or not, and is ANDed with 0 in the second rule.
+    let mut file = with_a_child("01 00 00 02 00");
+    let register = [0, 0, 2, 1, 0x80, 1, 0, 0, 0, 0x20, 0];
+    file[19] = 2;
+    file.splice(31..31, register);
+    let readings_file = |read| {
+        let mut bytes = reading(1, BIT_0);
+        bytes.extend(readings::record(2, 0, 0, read));
+        bytes
+    };
+    // 11 bytes behind where it is with one register.
+    assert_eq!(report(&file, 3, &readings_file(0)), "refused 18 place 95\n");
+    let text = report(&file, 3, &readings_file(1));
+    assert_eq!(lines(&text), (4, "steps 2"));
+    file.splice(95..95, [0x10, 2, 2, 0, 0, 0, 0, 0, 0, 0, 0]);
+    assert_eq!(
+        report(&file, 3, &readings_file(0)),
+        "refused 18 place 106\n"
+    );
+    let text = report(&file, 3, &readings_file(1));
+    assert_eq!(lines(&text), (4, "steps 2"));
+}
+
 /// The list holds 4,096 records.
 #[test]
 fn the_list_is_full() {
@@ -202,8 +270,14 @@ fn the_list_is_full() {
             .collect();
         report(&row, 3, &readings_file)
     };
-    assert_eq!(lines(&text(65, 0)), (65 * 63 + 1, "steps 66"));
+    // The next one shows nothing, so the bit above it is listed.
+    assert_eq!(lines(&text(64, 0)), (64 * 63 + 2, "steps 65"));
+    assert_eq!(lines(&text(65, 0)), (4_097, "steps 66"));
+    assert!(text(65, 0).ends_with("type 3 node 65 inst 0 bit 63\nsteps 66\n"));
+    assert!(text(65, 0).contains("type 3 node 65 inst 0 bit 0\n"));
+    assert_eq!(text(66, 0), "refused 19 place 4159\n");
     assert_eq!(lines(&text(65, 1)), (4_097, "steps 66"));
+    assert!(!text(65, 1).contains("type 3 node 65 inst 0 bit 0\n"));
     assert_eq!(text(65, 3), "refused 19 place 4097\n");
     assert_eq!(text(256, 0), "refused 19 place 16129\n");
 }

@@ -54,6 +54,7 @@ fn vectors_agree_with_the_reference() {
 
         let mut outcomes = [0; 20];
         let mut unreadable_captures = BTreeMap::new();
+        let mut above_silent = BTreeMap::new();
         let mut largest = 0;
         for vector in &vectors {
             assert_agrees(vector);
@@ -65,6 +66,9 @@ fn vectors_agree_with_the_reference() {
             if vector.expected[0] == 13 && is_capture(vector.file, vector.expected[1] as usize) {
                 *unreadable_captures.entry(vector.kind).or_insert(0) += 1;
             }
+            if vector.bits_above_silent() > 0 {
+                *above_silent.entry(vector.expected[0]).or_insert(0) += 1;
+            }
             largest = largest.max(vector.file.len());
         }
         assert!(outcomes.iter().all(|&count| count >= 40), "{outcomes:?}");
@@ -72,6 +76,8 @@ fn vectors_agree_with_the_reference() {
             let captures = unreadable_captures.get(&kind);
             assert!(captures >= Some(&12), "{unreadable_captures:?}");
         }
+        assert!(above_silent[&0] >= 100, "{above_silent:?}");
+        assert!(above_silent[&19] >= 30, "{above_silent:?}");
         assert!(largest > 65_536);
     }
 }

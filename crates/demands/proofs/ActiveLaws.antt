@@ -32,7 +32,7 @@ none-out : (fs : List Fault) → isNone fs ≡ true → fs ≡ []
 none-out [] e = refl
 none-out (f ∷ fs) e = clash e refl
 
-never : {A : Type 0} {j : ℕ} → none ≡ option.some j → A
+pub never : {A : Type 0} {j : ℕ} → none ≡ option.some j → A
 never e = let z : _≡_ {A = ℕ} 0 1 = cc in absurd (omega arith)
 
 module _ (c : Chip) (words read : List ℕ) (b : ℕ) (r : Rule) where
@@ -55,7 +55,7 @@ module _ (c : Chip) (u : NamesUnique c) (i b : ℕ) where
         ⊎-elim (λ z. clash t (some-none _ z))
         (λ z. let r = z .0 in
         let d = rule-out c words read b r (sym (some-one (ruleActive c words read b) r) ∙ (rw (z .1) at t)) in
-        record { entry = e; stands = q; rule = r; own = z .2; wanted = z .3; valued = rule-valued c read r (d .0); one = d .1 })
+        record { rule = r; own = record { entry = e; stands = q; own = z .2; wanted = z .3 }; valued = rule-valued c read r (d .0); one = d .1 })
         (rule-cases attention (e .instance))
 
     pub active-words : (chipGraph c attention words read .active i b ≡ true) ↔ ActiveBit c attention words read i b
@@ -72,9 +72,10 @@ module _ (c : Chip) (u : NamesUnique c) (i b : ℕ) where
 
         back : ActiveBit c attention words read i b → some (entryActive c attention words read b) (at i (nodeEntries c)) ≡ true
         back a =
-            rw (a .stands)
-            (some-one (entryActive c attention words read b) (a .entry)
-            ∙ rw (rule-wanted c u attention i (a .stands) (a .own) (a .wanted))
+            let w = a .own in
+            rw (w .stands)
+            (some-one (entryActive c attention words read b) (w .entry)
+            ∙ rw (rule-wanted c u attention i (w .stands) (w .own) (w .wanted))
             (some-one (ruleActive c words read b) (a .rule) ∙ rule-in c words read b (a .rule) (valued-rule c read (a .rule) (a .valued)) (a .one)))
 
   child-out : (e : NodeEntry) (j : ℕ) → at i (nodeEntries c) ≡ e ∷ [] → childPosition c (childFor b (e .instance)) ≡ option.some j → ChildOf c i b j

@@ -46,13 +46,13 @@ root-out c attention {t} e =
     let f = first-out (λ r. eqb (r .attention) attention) (c .roots) e in
     record { root = t; stands = at-in _ (c .roots) (f .0); wanted = eqb-true _ _ (f .1); means = refl }
 
-root-in : (c : Chip) → Meets c → (attention p : ℕ) (r : RootAt c attention p) → rootFor attention c ≡ r .root ∷ []
+pub root-in : (c : Chip) → Meets c → (attention p : ℕ) (r : RootAt c attention p) → rootFor attention c ≡ r .root ∷ []
 unfolding rootFor
 root-in c m attention p r =
     let k = in-at (c .roots) (r .stands) in
     first-key (λ t. t .attention) (c .roots) (m .unique .roots) (k .0) (k .1) (r .wanted)
 
-root-known : (c : Chip) → Meets c → (attention p : ℕ) → RootAt c attention p → knownAttention attention ≡ true
+pub root-known : (c : Chip) → Meets c → (attention p : ℕ) → RootAt c attention p → knownAttention attention ≡ true
 root-known c m attention p r =
     subst (λ a. knownAttention a ≡ true) (r .wanted) (every-in (λ t. knownAttention (t .attention) ≡ true) (c .roots) (m .known .roots) (r .stands))
 

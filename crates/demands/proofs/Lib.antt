@@ -8,3 +8,5 @@ pub mod Demand2
 pub mod Demand3
 pub mod Readings
 pub mod Captures
+pub mod AcyclicLaws
+pub mod SilentChildren

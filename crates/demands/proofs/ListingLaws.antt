@@ -8,7 +8,7 @@ use native.Mathlib.Omega.{arith}
 use lib.ListN.{length, length-append}
 use Rattle.numbers.proofs.Bools.{and-left, and-right}
 use Rattle.graph.specs.Below.{count}
-use Rattle.graph.specs.Chains.{Graph, Sound, Link, ReachedByChains, Listed, reachedFrom, listed, below, kept, listedOf, reachedCount}
+use Rattle.graph.specs.Chains.{Graph, Sound, Link, link, ReachedByChains, Listed, reachedFrom, listable, listed, below, kept, listedOf, reachedCount}
 use Rattle.graph.proofs.ChainsLaws.{reached-by-chains, listed-words}
 use Rattle.listing.specs.Records.{listing}
 use Rattle.isolation.proofs.GraphsLaws.{reached-below}
@@ -16,9 +16,6 @@ use Rattle.listing.proofs.RowsLaws.{kept-append}
 use Rattle.demands.specs.Rows.{In, InOrder, Different}
 use Rattle.demands.specs.Demand3.{Before, NamedBits}
 use Rattle.demands.proofs.RowsLaws.{in-gathered-out, in-gathered-in, in-map-out, in-map-in, in-kept-out, in-kept-in, in-below-in, order-map, order-unique, order-list, order-gathered, order-kept, order-below}
-
-abbrev link : ℕ → ℕ → Link
-link i b = record { instance = i; bit = b }
 
 before-irreflexive : (l : Link) → Before l l → ⊥
 unfolding Before
@@ -52,7 +49,7 @@ module _ (g : Graph) (sound : Sound g) (root : ℕ) (root-in : root < g .size) w
       subst (λ x. Listed g root (x .instance) (x .bit)) (sym (m .2)) (listed-words g sound root (r .0) (m .0) .0 (k .1))
 
   listing-in : (l : Link) → listed g root (l .instance) (l .bit) ≡ true → In l (listing g root)
-  unfolding listing listedOf listed
+  unfolding listing listedOf listed listable
   listing-in l e =
       let i = l .instance in
       let b = l .bit in

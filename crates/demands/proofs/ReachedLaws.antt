@@ -1,18 +1,18 @@
--- No fault of number 18 is there exactly when every register that a reached rule names has a value.
+-- No fault of number 18 is there exactly when every register that a reached rule names has a value; and each such fault is that of a register that has none.
 use Prim.Native.Nat.{ℕ, _<_}
 use mathlib.Core.Bool.{Bool, true, false, cond}
 use mathlib.Core.List.{List, [], _∷_}
 use mathlib.Core.Logic.{_⊎_, inl, inr, ⊎-elim}
-use mathlib.Core.Path.{_≡_, refl, sym, _∙_}
+use mathlib.Core.Path.{_≡_, refl, sym, _∙_, ap, subst}
 use native.Mathlib.Omega.{arith}
 use lib.Dec.{eqb}
 use lib.ListN.{length}
 use borrow.Author.Tests.{eqb-true, eq-eqb}
-use Rattle.numbers.proofs.Bools.{either}
+use Rattle.numbers.proofs.Bools.{either, clash}
 use Rattle.graph.specs.Chains.{Graph, Sound, below, reachedFrom}
 use Rattle.graph.proofs.ChainsLaws.{reached-by-chains}
 use Rattle.format.specs.Lookup.{some, at, gathered, NodeEntry, nodeEntries}
-use Rattle.format.specs.References.{Named, namedBy, Fault}
+use Rattle.format.specs.References.{Named, namedBy, Fault, unless}
 use Rattle.format.specs.Rules.{NamesUnique}
 use Rattle.format.specs.Tree.{Rule, NodeInstance, Chip}
 use Rattle.format.proofs.FaultsLaws.{gathered-none, none-gathered, unless-none, none-unless}
@@ -26,7 +26,7 @@ use Rattle.format.proofs.FindingLaws.{first-none, first-some, first-key}
 use Rattle.isolation.proofs.GraphsLaws.{every-below}
 use Rattle.demands.specs.Rows.{In}
 use Rattle.demands.specs.Demand3.{readByte, ReachedName}
-use Rattle.demands.proofs.RowsLaws.{every-in, in-every, in-at, at-in, in-below-in}
+use Rattle.demands.proofs.RowsLaws.{every-in, in-every, in-at, at-in, in-single, in-empty, in-place, in-gathered-out, in-below-in}
 
 -- The wanted rule
 
@@ -37,6 +37,13 @@ rule-cases attention i =
     ⊎-elim (λ h. let r = first-some _ (i .rules) h in inr (r .0, r .1, at-in _ (i .rules) (r .2), eqb-true _ _ (r .3)))
     (λ h. inl (first-none _ (i .rules) h))
     (either (some (λ r. eqb (r .attention) attention) (i .rules)))
+
+rule-in : (attention : ℕ) (i : NodeInstance) (r : Rule) → In r (ruleFor attention i) → In r (i .rules) × (r .attention ≡ attention)
+rule-in attention i r j =
+    ⊎-elim (λ z. absurd (in-empty r z j))
+    (λ z. let e : r ≡ z .0 = in-single (subst (In r) (z .1) j) in
+    (subst (λ x. In x (i .rules)) (sym e) (z .2), ap (λ x. x .attention) e ∙ z .3))
+    (rule-cases attention i)
 
 -- A rule for the wanted type is the wanted rule: rule types are unique.
 pub rule-wanted : (c : Chip) → NamesUnique c → (attention k : ℕ) {e : NodeEntry} {r : Rule} → at k (nodeEntries c) ≡ e ∷ [] → In r (e .instance .rules)
@@ -55,6 +62,15 @@ module _ (c : Chip) (read : List ℕ) where
   unfolding ruleUnread unreadFaults hasValue readByte
   valued-rule r h = none-gathered _ _ (in-every _ (namedBy (r .expression)) (λ n i. none-unless _ _ _ (eq-eqb _ 1 (h n i))))
 
+  fault-out : (n : Named) (f : Fault) → In f (unreadFaults c read n) → (readByte c read n ≡ 1 → ⊥) × (f ≡ record { number = 18; place = n .place })
+  unfolding unreadFaults hasValue readByte unless
+  fault-out n f i = go (eqb (readByte c read n) 1) refl i
+    where
+      go : (t : Bool) → eqb (readByte c read n) 1 ≡ t → In f (cond t [] (record { number = 18; place = n .place } ∷ []))
+          → (readByte c read n ≡ 1 → ⊥) × (f ≡ record { number = 18; place = n .place })
+      go true e j = absurd (in-empty f refl j)
+      go false e j = (λ h. clash (eq-eqb _ 1 h) e, in-single j)
+
   module _ (attention : ℕ) where
     pub entry-one : (e : NodeEntry) {r : Rule} → ruleFor attention (e .instance) ≡ r ∷ [] → entryUnread c attention read e ≡ ruleUnread c read r
     unfolding entryUnread
@@ -72,14 +88,14 @@ module _ (c : Chip) (read : List ℕ) where
       pub valued-out : NamesUnique c → reachedUnread c attention read g root ≡ [] → (n : Named) → ReachedName c attention g root n → readByte c read n ≡ 1
       unfolding reachedUnread
       valued-out u h n m =
-          let rr = m .reached in
-          let p = rr .position in
+          let p = m .reached .position in
+          let rr = m .reached .rule in
           let l : p < g .size = let k : p < length (nodeEntries c) = inside-at p (nodeEntries c) (rr .stands) in omega arith in
           let a : unreadAt g root p ≡ [] = every-in (λ i. unreadAt g root i ≡ []) (below (g .size)) (gathered-none _ _ h) (in-below-in (g .size) p l) in
-          let b : gathered (entryUnread c attention read) (at p (nodeEntries c)) ≡ [] = rw (reached-by-chains g sound root p .1 (rr .reached)) at a in
+          let b : gathered (entryUnread c attention read) (at p (nodeEntries c)) ≡ [] = rw (reached-by-chains g sound root p .1 (m .reached .reached)) at a in
           let d : entryUnread c attention read (rr .entry) ≡ [] =
           sym (gathered-one (entryUnread c attention read) (rr .entry)) ∙ (rw (rr .stands) at b) in
-          rule-valued (m .rule) (sym (entry-one (rr .entry) (rule-wanted c u attention p (rr .stands) (rr .rule) (rr .wanted))) ∙ d) n (m .names)
+          rule-valued (m .rule) (sym (entry-one (rr .entry) (rule-wanted c u attention p (rr .stands) (rr .own) (rr .wanted))) ∙ d) n (m .names)
 
       pub valued-in : ((n : Named) → ReachedName c attention g root n → readByte c read n ≡ 1) → reachedUnread c attention read g root ≡ []
       unfolding reachedUnread
@@ -93,7 +109,11 @@ module _ (c : Chip) (read : List ℕ) where
               (λ n k. h n
               (record {
                 rule = z .0;
-                reached = record { position = i; entry = e; stands = q; reached = reached-by-chains g sound root i .0 t; rule = z .2; wanted = z .3 };
+                reached = record {
+                  position = i;
+                  reached = reached-by-chains g sound root i .0 t;
+                  rule = record { entry = e; stands = q; own = z .2; wanted = z .3 };
+                };
                 names = k;
               })))
               (rule-cases attention (e .instance))
@@ -103,3 +123,34 @@ module _ (c : Chip) (read : List ℕ) where
               let x = at-inside i (nodeEntries c) (let k : i < length (nodeEntries c) = omega arith in k) in
               rw (x .1) (gathered-one (entryUnread c attention read) (x .0) ∙ entry i (x .0) (x .1) t)
           go i l false t = refl
+
+      -- A fault of number 18 is that of a register without a value that a reached rule names.
+      pub unread-out : (f : Fault) → In f (reachedUnread c attention read g root)
+          → (n : Named) × ReachedName c attention g root n × (readByte c read n ≡ 1 → ⊥) × (f ≡ record { number = 18; place = n .place })
+      unfolding reachedUnread entryUnread ruleUnread
+      unread-out f i =
+          let r = in-gathered-out (unreadAt g root) (below (g .size)) f i in
+          go (r .0) (reachedFrom g root (r .0)) refl (r .2)
+        where
+          go : (k : ℕ) (t : Bool) → reachedFrom g root k ≡ t → In f (cond t (gathered (entryUnread c attention read) (at k (nodeEntries c))) [])
+              → (n : Named) × ReachedName c attention g root n × (readByte c read n ≡ 1 → ⊥) × (f ≡ record { number = 18; place = n .place })
+          go k true t j =
+              let x = in-gathered-out (entryUnread c attention read) (at k (nodeEntries c)) f j in
+              let y = in-gathered-out (ruleUnread c read) (ruleFor attention (x .0 .instance)) f (x .2) in
+              let z = in-gathered-out (unreadFaults c read) (namedBy (y .0 .expression)) f (y .2) in
+              let w = rule-in attention (x .0 .instance) (y .0) (y .1) in
+              let v = fault-out (z .0) f (z .2) in (
+                z .0,
+                record {
+                  rule = y .0;
+                  reached = record {
+                    position = k;
+                    reached = reached-by-chains g sound root k .0 t;
+                    rule = record { entry = x .0; stands = in-place k (nodeEntries c) (x .1); own = w .0; wanted = w .1 };
+                  };
+                  names = z .1;
+                },
+                v .0,
+                v .1,
+              )
+          go k false t j = absurd (in-empty f refl j)

@@ -94,7 +94,11 @@ module _ (c : Chip) (m : Meets c) (attention : ℕ) (words read words′ read′
       alike .agree root rooted n
       (record {
         rule = r;
-        reached = record { position = i; entry = e; stands = q; reached = reached-by-chains g g-sound root i .0 t; rule = k; wanted = w };
+        reached = record {
+          position = i;
+          reached = reached-by-chains g g-sound root i .0 t;
+          rule = record { entry = e; stands = q; own = k; wanted = w };
+        };
         names = l;
       })
 

@@ -1,18 +1,19 @@
 -- The laws of `In` and `InOrder`.
-use Prim.Native.Nat.{ℕ, zero, suc, _<_}
+use Prim.Native.Nat.{ℕ, zero, suc, _≤_, _<_}
 use mathlib.Core.Bool.{Bool, true, false, cond}
 use mathlib.Core.List.{List, [], _∷_, _++_, map}
 use mathlib.Core.Logic.{_⊎_, inl, inr, ⊎-elim}
 use mathlib.Core.Path.{_≡_, refl, sym, _∙_, ap, subst}
 use native.Mathlib.Omega.{arith}
+use lib.ListN.{length}
 use Rattle.numbers.proofs.Bools.{clash, same?}
 use Rattle.graph.specs.Chains.{below, kept}
 use Rattle.format.specs.Lookup.{at, gathered}
 use Rattle.format.specs.Rules.{Every}
 use Rattle.format.proofs.EveryLaws.{every-map, every-append-in, every-gathered-in, every-list-in}
-use Rattle.format.proofs.PositionsLaws.{at-first, at-next, every-at}
+use Rattle.format.proofs.PositionsLaws.{at-first, at-next, at-most, every-at}
 use Rattle.isolation.proofs.GraphsLaws.{below-every}
-use Rattle.demands.specs.Rows.{In, InOrder}
+use Rattle.demands.specs.Rows.{In, InOrder, Different}
 
 -- What stands in a list
 
@@ -55,6 +56,29 @@ module _ {A : Type 0} where
   unfolding In
   in-append-right x [] ys i = i
   in-append-right x (y ∷ xs) ys i = inr (in-append-right x xs ys i)
+
+  pub in-single : {x y : A} → In x (y ∷ []) → x ≡ y
+  unfolding In
+  in-single i = ⊎-elim (λ e. e) (λ n. absurd n) i
+
+  pub in-empty : (x : A) {xs : List A} → xs ≡ [] → In x xs → ⊥
+  unfolding In
+  in-empty x e i = subst (In x) e i
+
+  -- What stands at a position is all that stands there.
+  pub in-place : (k : ℕ) (xs : List A) {x : A} → In x (at k xs) → at k xs ≡ x ∷ []
+  in-place k xs {x} i =
+      ⊎-elim (λ e. absurd (in-empty x e i)) (λ r. r .1 ∙ ap (λ y. y ∷ []) (sym (in-single (subst (In x) (r .1) i)))) (at-most k xs)
+
+  pub in-some : (x : A) (xs : List A) → In x xs → 1 ≤ length xs
+  unfolding In
+  in-some x [] i = absurd i
+  in-some x (y ∷ xs) i = omega arith
+
+  pub in-none : (xs : List A) → ((x : A) → In x xs → ⊥) → xs ≡ []
+  unfolding In
+  in-none [] f = refl
+  in-none (x ∷ xs) f = absurd (f x (inl refl))
 
 module _ {A B : Type 0} where
   pub in-gathered-out : (f : A → List B) (xs : List A) (y : B) → In y (gathered f xs) → (x : A) × In x xs × In y (f x)
@@ -135,6 +159,14 @@ module _ {A : Type 0} where
       (λ z i. ⊎-elim (λ d. absurd (irr x (subst (R x) (d ∙ sym e) (every-in (R x) xs (h .0) i)))) (λ j. j) (f z (inr i)))
       (λ z i. ⊎-elim (λ d. absurd (irr y (subst (R y) (d ∙ e) (every-in (R y) ys (k .0) i)))) (λ j. j) (b z (inr i))) in
       rw (e, t)
+
+  -- Different elements that are all one are one element.
+  pub order-one : (y : A) (xs : List A) → In y xs → InOrder Different xs → ((x : A) → In x xs → x ≡ y) → length xs ≡ 1
+  unfolding In InOrder
+  order-one y [] i d f = absurd i
+  order-one y (x ∷ []) i d f = refl
+  order-one y (x ∷ (z ∷ xs)) i d f =
+      absurd (every-in (Different x) (z ∷ xs) (d .0) (inl refl) (f x (inl refl) ∙ sym (f z (inr (inl refl)))))
 
 module _ {A B : Type 0} (R : A → A → Type 0) (S : B → B → Type 0) where
   pub order-list : (g : A → B) → ((x y : A) → R x y → S (g x) (g y)) → (xs : List A) → InOrder R xs → InOrder S (map g xs)

@@ -11,15 +11,12 @@ use Rattle.format.specs.References.{Named, namedBy}
 use Rattle.format.specs.Tree.{Rule, Child, Chip}
 use Rattle.isolation.specs.Readings.{wordFor}
 use Rattle.demands.specs.Rows.{In}
-use Rattle.demands.specs.Demand3.{readByte}
+use Rattle.demands.specs.Demand3.{readByte, WantedRule}
 
 -- "A node instance's active bits are the ones of its rule for the wanted attention type. It has none if it has no such rule, or if that rule names an unread register."
 pub record ActiveBit (c : Chip) (attention : ℕ) (words read : List ℕ) (i b : ℕ) : Type 0 where
-  pub entry : NodeEntry
-  pub stands : at i (nodeEntries c) ≡ entry ∷ []
   pub rule : Rule
-  pub own : In rule (entry .instance .rules)
-  pub wanted : rule .attention ≡ attention
+  pub own : WantedRule c attention i rule
   pub valued : (n : Named) → In n (namedBy (rule .expression)) → readByte c read n ≡ 1
   pub one : bitOf 64 (valueWithin levels 64 (wordFor c words) (rule .expression)) b ≡ true
 

@@ -1,4 +1,4 @@
--- Demand 3 of the minutes, over the definition of isolation and over the answers of the code, in the words of document 01 ("The words of demand 3").
+-- Demand 3 of the minutes, over the definition of isolation and over the answers of the code, in the words of document 01 ("The words of demand 3") and of document 02 (iii).
 use Prim.Native.Nat.{ℕ, _*_, _≤_, _<_}
 use mathlib.Core.List.{List, _++_, [], _∷_}
 use mathlib.Core.Logic.{_⊎_, _↔_}
@@ -37,14 +37,18 @@ pub record ReadingsFit (c : Chip) (words read : List ℕ) : Type 0 where
 unfoldable pub readByte : Chip → List ℕ → Named → ℕ
 readByte c read n = getD read (registerPosition c (n .id) (n .number)) 0
 
+-- A node instance's "rule for the wanted type": one of the rules of the node instance at this file position.
+pub record WantedRule (c : Chip) (attention position : ℕ) (r : Rule) : Type 0 where
+  pub entry : NodeEntry
+  pub stands : at position (nodeEntries c) ≡ entry ∷ []
+  pub own : In r (entry .instance .rules)
+  pub wanted : r .attention ≡ attention
+
 -- "A reached rule is a reached instance's rule for the wanted type": one of a node instance that chains of the graph reach from the root.
 pub record ReachedRule (c : Chip) (attention : ℕ) (g : Graph) (root : ℕ) (r : Rule) : Type 0 where
   pub position : ℕ
-  pub entry : NodeEntry
-  pub stands : at position (nodeEntries c) ≡ entry ∷ []
   pub reached : ReachedByChains g root position
-  pub rule : In r (entry .instance .rules)
-  pub wanted : r .attention ≡ attention
+  pub rule : WantedRule c attention position r
 
 -- A register "that a reached rule names".
 pub record ReachedName (c : Chip) (attention : ℕ) (g : Graph) (root : ℕ) (n : Named) : Type 0 where
@@ -56,7 +60,7 @@ pub record ReachedName (c : Chip) (attention : ℕ) (g : Graph) (root : ℕ) (n 
 unfoldable pub Before : Link → Link → Type 0
 Before l m = (l .instance < m .instance) ⊎ ((l .instance ≡ m .instance) × (l .bit < m .bit))
 
--- "Exactly the active bits without a child at the end of some unbroken chain of active bits from that root, each once, in file order and from bit 0 up within a node instance."
+-- "Exactly the" bits, in the words of document 02 (iii) "active bits without a child, and those whose child shows nothing", "at the end of some unbroken chain of active bits from that root, each once, in file order and from bit 0 up within a node instance."
 pub record NamedBits (g : Graph) (root : ℕ) (ls : List Link) : Type 0 where
   pub exactly : (l : Link) → In l ls ↔ Listed g root (l .instance) (l .bit)
   pub once : InOrder Different ls

@@ -6,3 +6,4 @@ pub mod Demand3
 pub mod Active
 pub mod Readings
 pub mod Captures
+pub mod SilentChildren

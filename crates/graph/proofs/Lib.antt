@@ -2,3 +2,5 @@
 pub mod BelowLaws
 pub mod PathsLaws
 pub mod ChainsLaws
+pub mod EndsLaws
+mod SamplesHold

@@ -83,9 +83,13 @@ module _ (n : ℕ) (start : ℕ → Bool) (edge : ℕ → ℕ → Bool) where
     unfolding reached
     reached-law j = (in-sound n j, in-complete)
 
+-- What is computed of the ends of i's edges is that a path leads from i to j.
+pub path-law : (n : ℕ) (edge : ℕ → ℕ → Bool) → Inside n edge → (i j : ℕ) → (reached n (edge i) edge j ≡ true) ↔ Path edge i j
+path-law n edge inside i j =
+    let l = reached-law n (edge i) edge inside j in
+    (λ e. reached-path edge (l .0 e), λ p. l .1 (path-reached edge p))
+
 -- i lies on a cycle exactly when a path leads from i back to i.
 pub cycle-law : (n : ℕ) (edge : ℕ → ℕ → Bool) → Inside n edge → (i : ℕ) → (onCycle n edge i ≡ true) ↔ Path edge i i
 unfolding onCycle
-cycle-law n edge inside i =
-    let l = reached-law n (edge i) edge inside i in
-    (λ e. reached-path edge (l .0 e), λ p. l .1 (path-reached edge p))
+cycle-law n edge inside i = path-law n edge inside i i

@@ -1,6 +1,6 @@
--- Chains of active bits over an abstract graph (document 01, "The words of demand 3"). No file and no mark of a walk is named here.
+-- Chains of active bits over an abstract graph (document 01, "The words of demand 3", with document 02 (iii)). No file and no mark of a walk is named here.
 use Prim.Native.Nat.{ℕ, zero, suc, _<_}
-use mathlib.Core.Bool.{Bool, true, false, cond, _&&_}
+use mathlib.Core.Bool.{Bool, true, false, cond, not, _&&_}
 use mathlib.Core.List.{List, [], _∷_, _++_}
 use mathlib.Core.Logic.{_⊎_}
 use mathlib.Core.Option.{Option, none, some}
@@ -26,12 +26,16 @@ pub record Link : Type 0 where
   pub instance : ℕ
   pub bit : ℕ
 
+-- The link of the node instance i and its bit b.
+abbrev pub link : ℕ → ℕ → Link
+link i b = record { instance = i; bit = b }
+
 -- "An unbroken chain .. is one or more links in a row." Chain g i ls l: the links ls are a chain that starts at the node instance i; l is the last link.
 -- "The first link's instance is the root's; each later link's instance is the child of the bit before it."
 pub data Chain (g : Graph) : ℕ → List Link → Link → Type 0 where
-  last : {i b : ℕ} → g .active i b ≡ true → Chain g i (record { instance = i; bit = b } ∷ []) (record { instance = i; bit = b })
+  last : {i b : ℕ} → g .active i b ≡ true → Chain g i (link i b ∷ []) (link i b)
   next : {i b j : ℕ} {ls : List Link} {l : Link} → g .active i b ≡ true → g .child i b ≡ some j → Chain g j ls l
-      → Chain g i (record { instance = i; bit = b } ∷ ls) l
+      → Chain g i (link i b ∷ ls) l
 
 -- A node instance is that of a link.
 pub data Through (j : ℕ) : List Link → Type 0 where
@@ -49,11 +53,25 @@ pub record ChainReaches (g : Graph) (root j : ℕ) : Type 0 where
 abbrev pub ReachedByChains : Graph → ℕ → ℕ → Type 0
 ReachedByChains g root j = (j ≡ root) ⊎ ChainReaches g root j
 
--- "The active bits without a child at the end of some unbroken chain of active bits from that root."
+-- Document 02 (iii): a node instance is silent, it "shows nothing", if it "has no active bit".
+abbrev pub Silent : Graph → ℕ → Type 0
+Silent g j = (b : ℕ) → g .active j b ≡ false
+
+-- The bit b of i has a child, and that is silent.
+pub record SilentChild (g : Graph) (i b : ℕ) : Type 0 where
+  pub child : ℕ
+  pub entry : g .child i b ≡ some child
+  pub silent : Silent g child
+
+-- The bit b of i is "without a child", or its "child shows nothing".
+abbrev pub NothingBelow : Graph → ℕ → ℕ → Type 0
+NothingBelow g i b = (g .child i b ≡ none) ⊎ SilentChild g i b
+
+-- "Active bits without a child, and those whose child shows nothing", each "at the end of some unbroken chain of active bits from that root".
 pub record Listed (g : Graph) (root i b : ℕ) : Type 0 where
   pub links : List Link
-  pub chain : Chain g root links (record { instance = i; bit = b })
-  pub bare : g .child i b ≡ none
+  pub chain : Chain g root links (link i b)
+  pub ends : NothingBelow g i b
 
 -- The same, computed.
 
@@ -62,10 +80,18 @@ abbrev pub names : Option ℕ → ℕ → Bool
 names none j = false
 names (some c) j = eqb c j
 
--- There is no child.
-abbrev pub bare : Option ℕ → Bool
-bare none = true
-bare (some c) = false
+-- A node instance "has no active bit": none of its 64 is one.
+unfoldable pub silent : Graph → ℕ → Bool
+silent g j = not (any 64 (g .active j))
+
+-- If there is one, it passes the test.
+abbrev pub noneOr : (ℕ → Bool) → Option ℕ → Bool
+noneOr p none = true
+noneOr p (some c) = p c
+
+-- The bit b of i has no child, or one that is silent.
+unfoldable pub nothingBelow : Graph → ℕ → ℕ → Bool
+nothingBelow g i b = noneOr (silent g) (g .child i b)
 
 -- "If a reached instance has an active bit with a child entry, the child is reached": some active bit of i has the child j.
 unfoldable pub linked : Graph → ℕ → ℕ → Bool
@@ -75,9 +101,13 @@ linked g i j = any 64 (λ b. g .active i b && names (g .child i b) j)
 unfoldable pub reachedFrom : Graph → ℕ → ℕ → Bool
 reachedFrom g root j = reached (g .size) (λ i. eqb i root) (linked g) j
 
--- "An active bit of a reached instance is listed if it has no child entry."
+-- The bit b of i is listed if i is reached. Document 01: "if it has no child entry"; document 02 (iii): "An active bit whose child instance has no active bit for the wanted type .. is listed itself".
+unfoldable pub listable : Graph → ℕ → ℕ → Bool
+listable g i b = g .active i b && nothingBelow g i b
+
+-- "An active bit of a reached instance is listed if" it is one of those.
 unfoldable pub listed : Graph → ℕ → ℕ → ℕ → Bool
-listed g root i b = reachedFrom g root i && (g .active i b && bare (g .child i b))
+listed g root i b = reachedFrom g root i && listable g i b
 
 -- The numbers below n, from 0 up.
 unfoldable pub below : ℕ → List ℕ

@@ -2,3 +2,4 @@
 pub mod Below
 pub mod Paths
 pub mod Chains
+pub mod Samples

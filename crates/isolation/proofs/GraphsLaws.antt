@@ -3,6 +3,7 @@ use Prim.Native.Nat.{ℕ, zero, suc, _*_, _≤_, _<_}
 use mathlib.Core.Bool.{Bool, true, false, cond, _&&_}
 use mathlib.Core.List.{List, [], _∷_, map}
 use mathlib.Core.Logic.{_↔_}
+use mathlib.Core.Option.{Option, none, some}
 use mathlib.Core.Path.{_≡_, refl, sym, _∙_, ap}
 use native.Mathlib.Omega.{arith}
 use lib.Dec.{eqb}
@@ -11,9 +12,9 @@ use borrow.Author.Tests.{eq-eqb, eqb-true, lt-ltb}
 use Rattle.numbers.proofs.Bools.{clash, same-truth}
 use Rattle.graph.specs.Below.{count}
 use Rattle.graph.specs.Paths.{Reached, here, next}
-use Rattle.graph.specs.Chains.{Graph, Sound, Link, bare, linked, reachedFrom, listed, below, kept, listedOf, reachedCount}
+use Rattle.graph.specs.Chains.{Graph, Sound, Link, link, silent, noneOr, nothingBelow, linked, reachedFrom, listable, listed, below, kept, listedOf, reachedCount}
 use Rattle.graph.proofs.BelowLaws.{any-same, count-same}
-use Rattle.graph.proofs.ChainsLaws.{reached-in}
+use Rattle.graph.proofs.ChainsLaws.{reached-in, child-reached}
 use Rattle.format.specs.Lookup.{at, gathered, NodeEntry, nodeEntries}
 use Rattle.format.specs.Rules.{Every}
 use Rattle.format.specs.Tree.{Chip}
@@ -24,11 +25,8 @@ use Rattle.walk.specs.Marks.{finished}
 use Rattle.walk.proofs.Step.{getD-tabulate}
 use Rattle.walk.proofs.WalkLaws.{reached-inside}
 use Rattle.listing.specs.Records.{recordOf, recordBytes, listing, linkRecord, recordsOf}
-use Rattle.listing.specs.Rows.{shown, bitsTo, isDone, rowLinks, rowsTo, bitRecords, keyId, keyNumber, rowRecords, rowsRecords}
+use Rattle.listing.specs.Rows.{bitsTo, isDone, rowLinks, rowsTo, bitRecords, keyId, keyNumber, rowRecords, rowsRecords}
 use Rattle.listing.proofs.WriteLaws.{record-length}
-
-abbrev link : ℕ → ℕ → Link
-link i b = record { instance = i; bit = b }
 
 -- The numbers below n, and what a test keeps
 
@@ -83,12 +81,25 @@ module _ (g h : Graph) (gs : Sound g) (hs : Sound h) (root : ℕ) (a : Agree g h
       same-truth _ _ (λ e. reached-in h hs root i .1 (there (reached-in g gs root i .0 e)))
       (λ e. reached-in g gs root i .1 (back (reached-in h hs root i .0 e)))
 
+  silent-same : (j : ℕ) → reachedFrom g root j ≡ true → silent g j ≡ silent h j
+  unfolding silent
+  silent-same j e = rw (any-same 64 (h .active j) (g .active j) (λ b l. a .active j b e l))
+
+  listable-same : (i b : ℕ) → reachedFrom g root i ≡ true → b < 64 → listable g i b ≡ listable h i b
+  unfolding listable nothingBelow
+  listable-same i b e l = go (g .active i b) refl (g .child i b) refl ∙ rw (a .active i b e l, a .child i b e l)
+    where
+      go : (t : Bool) → g .active i b ≡ t → (o : Option ℕ) → g .child i b ≡ o → t && noneOr (silent g) o ≡ t && noneOr (silent h) o
+      go true d none c = refl
+      go true d (some j) c = silent-same j (child-reached g gs root i b j e d c)
+      go false d o c = refl
+
   pub listed-same : (i b : ℕ) → b < 64 → listed g root i b ≡ listed h root i b
   unfolding listed
   listed-same i b l = go (reachedFrom g root i) refl
     where
-      go : (t : Bool) → reachedFrom g root i ≡ t → t && (g .active i b && bare (g .child i b)) ≡ reachedFrom h root i && (h .active i b && bare (h .child i b))
-      go true e = rw (← reached-same i, e, a .active i b e l, a .child i b e l)
+      go : (t : Bool) → reachedFrom g root i ≡ t → t && listable g i b ≡ reachedFrom h root i && listable h i b
+      go true e = rw (← reached-same i, e) (listable-same i b e l)
       go false e = rw (← reached-same i, e)
 
   pub listed-of-same : (i : ℕ) → listedOf g root i ≡ listedOf h root i
@@ -134,16 +145,16 @@ records-gathered c attention f xs = sym (gathered-gathered (linkRecord c attenti
 -- The listing, node instance after node instance
 
 module _ (g : Graph) (root : ℕ) where
-  listed-is : (i b : ℕ) {t : Bool} → reachedFrom g root i ≡ t → listed g root i b ≡ t && shown g i b
-  unfolding listed shown
+  listed-is : (i b : ℕ) {t : Bool} → reachedFrom g root i ≡ t → listed g root i b ≡ t && listable g i b
+  unfolding listed
   listed-is i b e = rw e
 
-  -- Of what is reached, listed is what is shown; of the rest nothing is.
+  -- Of what is reached, listed is what is listable; of the rest nothing is.
   pub listed-of : (i : ℕ) → listedOf g root i ≡ cond (reachedFrom g root i) (bitsTo g i 64) []
   unfolding listedOf bitsTo
   listed-of i = go (reachedFrom g root i) refl
     where
-      go : (t : Bool) → reachedFrom g root i ≡ t → kept (listed g root i) (below 64) ≡ cond t (kept (shown g i) (below 64)) []
+      go : (t : Bool) → reachedFrom g root i ≡ t → kept (listed g root i) (below 64) ≡ cond t (kept (listable g i) (below 64)) []
       go true e = kept-same _ _ (below 64) (every-below _ 64 (λ b l. listed-is i b e))
       go false e = kept-none _ (below 64) (λ b. listed-is i b e)
 

@@ -27,7 +27,7 @@ pub enum Isolated {
     Refused(Refusal),
 }
 
-// Isolation: the records of the active bits without a child that are reached from the wanted root, in the lent list; how many they are, and how many node instances were reached. Or a refusal, and the list keeps its bytes. The words and the read bytes stand in the register instances' file order.
+// Isolation: the records of the active bits that are reached from the wanted root and have no child, or a child that shows nothing, in the lent list; how many they are, and how many node instances were reached. Or a refusal, and the list keeps its bytes. The words and the read bytes stand in the register instances' file order.
 pub fn isolate(file: &[u8], attention: u8, words: &[u64], read: &[u8], list: &mut [u8]) -> Isolated
     ensures { λ r. ⌜ outcomeOf r (now (list .exit))
         ≡ isolate (now (file .entry)) attention (now (words .entry)) (now (read .entry)) (now (list .entry)) ⌝ }

@@ -2,44 +2,59 @@
 use mathlib.Core.Path.{_≡_, refl, sym, ap, _∙_}
 use mathlib.Core.Bool.{Bool, true, false, cond}
 use mathlib.Core.List.{List, [], _∷_, _++_, map, append-assoc}
-use mathlib.Core.Option.{Option, none, some}
-use Prim.Native.Nat.{ℕ, zero, suc, _+_, _*_, _/_, _%_, _≤_, _<_}
+use Prim.Native.Nat.{ℕ, zero, suc, _+_, _*_, _/_, _%_, _^_, _≤_, _<_}
 use native.Mathlib.Omega.{arith}
 use native.Mathlib.Numerals.{add-one}
-use lib.Dec.{eqb, leb, ltb}
+use lib.Dec.{eqb, ltb}
 use lib.ListN.{length, getD, set, take, drop, length-append, length-map, List·getD-eq-default}
 use lib.Seq.{sets-eq}
-use borrow.Author.Tests.{lt-ltb, le-leb, lt-leb}
+use borrow.Author.Tests.{eqb-true, eq-eqb, lt-ltb}
 use Rattle.numbers.specs.Bits.{bitOf}
 use Rattle.numbers.specs.BigEndian.{bytesOf}
-use Rattle.graph.specs.Chains.{Graph, Link, bare, below, kept}
+use Rattle.numbers.proofs.BitsLaws.{zero-bit, word-none}
+use Rattle.numbers.proofs.Bools.{same-truth}
+use Rattle.graph.specs.Chains.{Graph, link, Silent, silent, nothingBelow, listable, below, kept}
+use Rattle.graph.proofs.ChainsLaws.{silent-words}
 use Rattle.format.specs.Lookup.{gathered}
 use Rattle.format.proofs.GatheredLaws.{gathered-append, gathered-one}
 use Rattle.walk.specs.TableGraph.{tableSize, childAt, tableGraph}
 use Rattle.walk.specs.Fold.{orElse}
-use Rattle.walk.proofs.Tables.{child-in}
+use Rattle.walk.proofs.Tables.{found-none, found-some, table-sound}
 use Rattle.listing.specs.Records.{recordOf}
-use Rattle.listing.specs.Rows.{shown, bitsTo, isDone, rowLinks, rowsTo}
+use Rattle.listing.specs.Rows.{bitsTo, isDone, rowLinks, rowsTo}
 
 -- One bit
+
+-- A node instance is silent exactly where its word is 0.
+word-silent : (act ch : List ℕ) (c : ℕ) → c < tableSize act → getD act c 0 < 2 ^ 64 → eqb (getD act c 0) 0 ≡ silent (tableGraph act ch) c
+unfolding tableGraph
+word-silent act ch c l w =
+    let s = silent-words (tableGraph act ch) (table-sound act ch) c in
+    same-truth _ _ (λ e. s .1 (off (eqb-true _ 0 e))) (λ e. eq-eqb _ 0 (word-none 64 _ w (λ b h. zero b (s .0 e b))))
+  where
+    off : getD act c 0 ≡ 0 → Silent (tableGraph act ch) c
+    off e b = simp (lt-ltb c _ l, e, zero-bit 64 b)
+
+    zero : (b : ℕ) → tableGraph act ch .active c b ≡ false → bitOf 64 (getD act c 0) b ≡ false
+    zero b e = simp (lt-ltb c _ l) at e
 
 module _ (act ch : List ℕ) (n i b : ℕ) (size : n ≡ tableSize act) (h : i < n) (b64 : b < 64) where
   i-in : ltb i (tableSize act) ≡ true
   i-in = rw (← size) (lt-ltb i n h)
 
-  pub shown-off : bitOf 64 (getD act i 0) b ≡ false → false ≡ shown (tableGraph act ch) i b
-  unfolding shown tableGraph
-  shown-off e = simp (i-in, e)
+  pub listable-off : bitOf 64 (getD act i 0) b ≡ false → false ≡ listable (tableGraph act ch) i b
+  unfolding listable tableGraph
+  listable-off e = simp (i-in, e)
 
-  bare-is : {c : ℕ} (o : Option ℕ) → c ≡ orElse n o → ((d : ℕ) → o ≡ some d → d < n) → leb n c ≡ bare o
-  bare-is none e f = rw e (le-leb n n (omega arith))
-  bare-is (some d) e f = rw e (lt-leb n d (f d refl))
+  module _ (on : bitOf 64 (getD act i 0) b ≡ true) {c : ℕ} (found : c ≡ orElse n (childAt n ch (i * 64 + b))) where
+    pub listable-childless : n ≤ c → true ≡ listable (tableGraph act ch) i b
+    unfolding listable nothingBelow tableGraph
+    listable-childless l = simp (i-in, on, lt-ltb b 64 b64, found-none act ch n (i * 64 + b) size found l)
 
-  pub shown-on : bitOf 64 (getD act i 0) b ≡ true → {c : ℕ} → c ≡ orElse n (childAt n ch (i * 64 + b)) → leb n c ≡ shown (tableGraph act ch) i b
-  unfolding shown tableGraph
-  shown-on e d =
-      simp (i-in, e, lt-ltb b 64 b64)
-      (bare-is _ d (child-in n ch (i * 64 + b)) ∙ ap (λ x. bare (childAt x ch (i * 64 + b))) size)
+    pub listable-child : c < n → getD act c 0 < 2 ^ 64 → eqb (getD act c 0) 0 ≡ listable (tableGraph act ch) i b
+    unfolding listable nothingBelow tableGraph
+    listable-child l w =
+        simp (i-in, on, lt-ltb b 64 b64, found-some act ch n (i * 64 + b) size found l) (word-silent act ch c (omega (arith, size, l)) w)
 
 -- A mark and a key that a table may not have
 
@@ -67,21 +82,21 @@ module _ (g : Graph) where
   unfolding bitsTo below kept
   bits-none i = refl
 
-  pub bits-more : (i b : ℕ) → bitsTo g i (b + 1) ≡ bitsTo g i b ++ kept (shown g i) (b ∷ [])
+  pub bits-more : (i b : ℕ) → bitsTo g i (b + 1) ≡ bitsTo g i b ++ kept (listable g i) (b ∷ [])
   unfolding bitsTo below
-  bits-more i b = rw add-one (kept-append (shown g i) (below b) (b ∷ []))
+  bits-more i b = rw add-one (kept-append (listable g i) (below b) (b ∷ []))
 
-  pub count-more : (i b : ℕ) {c k : ℕ} → c ≡ length (bitsTo g i b) → k ≡ length (kept (shown g i) (b ∷ [])) → c + k ≡ length (bitsTo g i (b + 1))
-  count-more i b e d = omega (arith, ap length (bits-more i b), length-append (bitsTo g i b) (kept (shown g i) (b ∷ [])))
+  pub count-more : (i b : ℕ) {c k : ℕ} → c ≡ length (bitsTo g i b) → k ≡ length (kept (listable g i) (b ∷ [])) → c + k ≡ length (bitsTo g i (b + 1))
+  count-more i b e d = omega (arith, ap length (bits-more i b), length-append (bitsTo g i b) (kept (listable g i) (b ∷ [])))
 
   pub bits-end : (i b n : ℕ) {c : ℕ} → c ≡ length (bitsTo g i b) → b ≡ n → c ≡ length (bitsTo g i n)
   bits-end i b n e d = rw (← d) e
 
-  pub bit-yes : (i b : ℕ) {t : Bool} → t ≡ shown g i b → t ≡ true → 1 ≡ length (kept (shown g i) (b ∷ []))
+  pub bit-yes : (i b : ℕ) {t : Bool} → t ≡ listable g i b → t ≡ true → 1 ≡ length (kept (listable g i) (b ∷ []))
   unfolding kept
   bit-yes i b e d = rw (sym e ∙ d)
 
-  pub bit-no : (i b : ℕ) {t : Bool} → t ≡ shown g i b → t ≡ false → 0 ≡ length (kept (shown g i) (b ∷ []))
+  pub bit-no : (i b : ℕ) {t : Bool} → t ≡ listable g i b → t ≡ false → 0 ≡ length (kept (listable g i) (b ∷ []))
   unfolding kept
   bit-no i b e d = rw (sym e ∙ d)
 
@@ -101,7 +116,7 @@ module _ (g : Graph) where
 
   pub bits-few : (i n : ℕ) → length (bitsTo g i n) ≤ n
   unfolding bitsTo
-  bits-few i n = omega (arith, kept-few (shown g i) (below n), below-length n)
+  bits-few i n = omega (arith, kept-few (listable g i) (below n), below-length n)
 
   module _ (marks : List ℕ) where
     pub row-done : (i : ℕ) {t : Bool} {c : ℕ} → t ≡ isDone marks i → t ≡ true → c ≡ length (bitsTo g i 64) → c ≡ length (rowLinks g marks i)
@@ -116,10 +131,7 @@ module _ (g : Graph) where
     unfolding rowLinks
     row-few i = go (isDone marks i)
       where
-        link : ℕ → Link
-        link b = record { instance = i; bit = b }
-
-        go : (t : Bool) → length (cond t (map link (bitsTo g i 64)) []) ≤ 64
+        go : (t : Bool) → length (cond t (map (link i) (bitsTo g i 64)) []) ≤ 64
         go true = rw length-map (bits-few i 64)
         go false = omega arith
 

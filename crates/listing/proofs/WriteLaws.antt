@@ -10,13 +10,13 @@ use borrow.Author.Tests.{le-leb, lt-leb}
 use lib.ListN.{length, getD, take, drop, length-map, length-append, length-take, take-append-drop}
 use lib.Seq.{take-at, drop-append-add, drop-drop}
 use Rattle.numbers.proofs.BigEndianLaws.{length-bytes}
-use Rattle.graph.specs.Chains.{Graph, Link, below, kept}
+use Rattle.graph.specs.Chains.{Graph, link, below, listable, kept}
 use Rattle.format.specs.Lookup.{gathered}
 use Rattle.walk.specs.TableGraph.{tableSize, tableGraph}
 use Rattle.listing.specs.declared.Listing
 use Rattle.listing.specs.declared.Listing.{Listing}
 use Rattle.listing.specs.Records.{recordOf, recordSize}
-use Rattle.listing.specs.Rows.{shown, bitsTo, isDone, rowLinks, rowsTo, bitRecords, keyId, keyNumber, rowRecords, rowsRecords, Wrote, listingValues, hasRoom, listingFor, tableLinks, tableRecords, listAfter}
+use Rattle.listing.specs.Rows.{bitsTo, isDone, rowLinks, rowsTo, bitRecords, keyId, keyNumber, rowRecords, rowsRecords, Wrote, listingValues, hasRoom, listingFor, tableLinks, tableRecords, listAfter}
 use Rattle.format.proofs.GatheredLaws.{gathered-append, gathered-one}
 use Rattle.listing.proofs.RowsLaws.{bits-more, row-done, rows-none, rows-more}
 
@@ -54,16 +54,16 @@ wrote-more {old} {mid} {new} {at} {k} {next} {xs} {ys} a b h =
 
 module _ (g : Graph) (attention id number i : ℕ) where
   -- One bit.
-  pub bit-wrote : (b : ℕ) {t : Bool} {old new : List ℕ} {at : ℕ} → t ≡ shown g i b → t ≡ true
+  pub bit-wrote : (b : ℕ) {t : Bool} {old new : List ℕ} {at : ℕ} → t ≡ listable g i b → t ≡ true
       → new ≡ take at old ++ (recordOf attention b id number ++ drop (at + 8) old) → length new ≡ length old
-      → Wrote old new at (at + 8) (bitRecords attention id number (kept (shown g i) (b ∷ [])))
+      → Wrote old new at (at + 8) (bitRecords attention id number (kept (listable g i) (b ∷ [])))
   unfolding kept bitRecords gathered
   bit-wrote b e d c s =
       rw (sym e ∙ d, append-nil)
       (record { content = c; ends = omega (arith, record-length attention b id number); same = s })
 
-  pub bit-kept : (b : ℕ) {t : Bool} {old : List ℕ} {at : ℕ} → t ≡ shown g i b → t ≡ false
-      → Wrote old old at at (bitRecords attention id number (kept (shown g i) (b ∷ [])))
+  pub bit-kept : (b : ℕ) {t : Bool} {old : List ℕ} {at : ℕ} → t ≡ listable g i b → t ≡ false
+      → Wrote old old at at (bitRecords attention id number (kept (listable g i) (b ∷ [])))
   unfolding kept bitRecords gathered
   bit-kept b {old = old} {at = at} e d = rw (sym e ∙ d) (wrote-none old at)
 
@@ -73,11 +73,11 @@ module _ (g : Graph) (attention id number i : ℕ) where
   bits-started {old} at = wrote-none old at
 
   pub bits-wrote : (b : ℕ) {old mid new : List ℕ} {at k next : ℕ} → Wrote old mid at k (bitRecords attention id number (bitsTo g i b))
-      → Wrote mid new k next (bitRecords attention id number (kept (shown g i) (b ∷ []))) → next ≤ length old
+      → Wrote mid new k next (bitRecords attention id number (kept (listable g i) (b ∷ []))) → next ≤ length old
       → Wrote old new at next (bitRecords attention id number (bitsTo g i (b + 1)))
   unfolding bitRecords
   bits-wrote b x y h =
-      rw (bits-more g i b, gathered-append (λ c. recordOf attention c id number) (bitsTo g i b) (kept (shown g i) (b ∷ []))) (wrote-more x y h)
+      rw (bits-more g i b, gathered-append (λ c. recordOf attention c id number) (bitsTo g i b) (kept (listable g i) (b ∷ []))) (wrote-more x y h)
 
   pub bits-finished : (b n : ℕ) {old new : List ℕ} {at next : ℕ} → b ≡ n → Wrote old new at next (bitRecords attention id number (bitsTo g i b))
       → Wrote old new at next (bitRecords attention id number (bitsTo g i n))
@@ -88,11 +88,11 @@ module _ (g : Graph) (attention id number i : ℕ) where
   bits-mono b zero = rw add-zero (omega arith)
   bits-mono b (suc k) =
       let e : b + suc k ≡ b + k + 1 = omega arith in
-      rw e (omega (arith, bits-mono b k, ap length (bits-more g i (b + k)), length-append (bitsTo g i (b + k)) (kept (shown g i) ((b + k) ∷ []))))
+      rw e (omega (arith, bits-mono b k, ap length (bits-more g i (b + k)), length-append (bitsTo g i (b + k)) (kept (listable g i) ((b + k) ∷ []))))
 
   pub room-next : (b : ℕ) {old mid : List ℕ} {at k : ℕ} → b < 64 → at + 8 * length (bitsTo g i 64) ≤ length old
       → Wrote old mid at k (bitRecords attention id number (bitsTo g i b))
-      → (k + 8 * length (kept (shown g i) (b ∷ [])) ≤ length old)
+      → (k + 8 * length (kept (listable g i) (b ∷ [])) ≤ length old)
   room-next b {k = k} h r w =
       let e : b + 1 + (63 - b) ≡ 64 = omega arith in
       let m : length (bitsTo g i (b + 1)) ≤ length (bitsTo g i 64) = rw e at (bits-mono (b + 1) (63 - b)) in
@@ -102,7 +102,7 @@ module _ (g : Graph) (attention id number i : ℕ) where
         w .ends,
         records-length attention id number (bitsTo g i b),
         ap length (bits-more g i b),
-        length-append (bitsTo g i b) (kept (shown g i) (b ∷ [])),
+        length-append (bitsTo g i b) (kept (listable g i) (b ∷ [])),
       )
 
 module _ (attention : ℕ) (keys : List ℕ) (g : Graph) (marks : List ℕ) where
@@ -117,7 +117,7 @@ module _ (attention : ℕ) (keys : List ℕ) (g : Graph) (marks : List ℕ) wher
   unfolding rowRecords
   row-kept i {old = old} {at = at} e d = rw (sym e ∙ d) (wrote-none old at)
 
-  -- A done node instance has as many links as bits that are shown.
+  -- A done node instance has as many links as bits that are listable.
   pub row-room : (i : ℕ) (list : List ℕ) (at : ℕ) {t : Bool} → t ≡ isDone marks i → t ≡ true → at + 8 * length (rowLinks g marks i) ≤ length list
       → at + 8 * length (bitsTo g i 64) ≤ length list
   row-room i list at e d h = omega (arith, row-done g marks i e d refl)
@@ -144,10 +144,7 @@ module _ (attention : ℕ) (keys : List ℕ) (g : Graph) (marks : List ℕ) wher
   unfolding rowRecords rowLinks
   row-length i = go (isDone marks i)
     where
-      link : ℕ → Link
-      link b = record { instance = i; bit = b }
-
-      go : (t : Bool) → length (cond t (bitRecords attention (keyId (getD keys i 0)) (keyNumber (getD keys i 0)) (bitsTo g i 64)) []) ≡ 8 * length (cond t (map link (bitsTo g i 64)) [])
+      go : (t : Bool) → length (cond t (bitRecords attention (keyId (getD keys i 0)) (keyNumber (getD keys i 0)) (bitsTo g i 64)) []) ≡ 8 * length (cond t (map (link i) (bitsTo g i 64)) [])
       go true = rw length-map (records-length attention (keyId (getD keys i 0)) (keyNumber (getD keys i 0)) (bitsTo g i 64))
       go false = refl
 

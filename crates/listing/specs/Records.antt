@@ -2,7 +2,7 @@
 use Prim.Native.Nat.{ℕ}
 use mathlib.Core.List.{List, _++_, map}
 use Rattle.numbers.specs.BigEndian.{bytesOf}
-use Rattle.graph.specs.Chains.{Graph, Link, below, listedOf}
+use Rattle.graph.specs.Chains.{Graph, Link, link, below, listedOf}
 use Rattle.format.specs.Lookup.{at, gathered, NodeEntry, nodeEntries}
 use Rattle.format.specs.Tree.{Chip}
 
@@ -18,7 +18,7 @@ recordBytes attention bit e = recordOf attention bit (e .id) (e .instance .numbe
 
 -- "Order: node instances as they stand in the file, then bits from 0 up."
 unfoldable pub listing : Graph → ℕ → List Link
-listing g root = gathered (λ i. map (λ b. record { instance = i; bit = b }) (listedOf g root i)) (below (g .size))
+listing g root = gathered (λ i. map (link i) (listedOf g root i)) (below (g .size))
 
 unfoldable pub linkRecord : Chip → ℕ → Link → List ℕ
 linkRecord c attention l = gathered (recordBytes attention (l .bit)) (at (l .instance) (nodeEntries c))

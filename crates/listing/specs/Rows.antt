@@ -1,24 +1,20 @@
 -- The listing as the code goes through it: node instances from 0 up, and of each done one the bits from 0 up.
 use Prim.Native.Nat.{ℕ, _+_, _/_, _%_}
-use mathlib.Core.Bool.{Bool, cond, _&&_}
+use mathlib.Core.Bool.{Bool, cond}
 use mathlib.Core.List.{List, [], _++_, map}
 use mathlib.Core.Path.{_≡_}
 use lib.Dec.{eqb, leb}
 use lib.ListN.{length, getD, take, drop}
-use Rattle.graph.specs.Chains.{Graph, Link, bare, below, kept}
+use Rattle.graph.specs.Chains.{Graph, Link, link, listable, below, kept}
 use Rattle.format.specs.Lookup.{gathered}
 use Rattle.walk.specs.TableGraph.{tableSize, tableGraph}
 use Rattle.listing.specs.declared.Listing
 use Rattle.listing.specs.declared.Listing.{Listing}
 use Rattle.listing.specs.Records.{recordOf, recordSize}
 
--- Bit b of i is active and has no child.
-unfoldable pub shown : Graph → ℕ → ℕ → Bool
-shown g i b = g .active i b && bare (g .child i b)
-
--- Those of the first n bits of i.
+-- Those of the first n bits of i that are listed if i is reached.
 unfoldable pub bitsTo : Graph → ℕ → ℕ → List ℕ
-bitsTo g i n = kept (shown g i) (below n)
+bitsTo g i n = kept (listable g i) (below n)
 
 -- A node instance is done.
 unfoldable pub isDone : List ℕ → ℕ → Bool
@@ -26,7 +22,7 @@ isDone marks i = eqb (getD marks i 0) 2
 
 -- The links of the node instance i, if it is done.
 unfoldable pub rowLinks : Graph → List ℕ → ℕ → List Link
-rowLinks g marks i = cond (isDone marks i) (map (λ b. record { instance = i; bit = b }) (bitsTo g i 64)) []
+rowLinks g marks i = cond (isDone marks i) (map (link i) (bitsTo g i 64)) []
 
 -- Those of the first n node instances.
 unfoldable pub rowsTo : Graph → List ℕ → ℕ → List Link

@@ -3,9 +3,9 @@ ghost use mathlib.Core.Path.{_≡_};
 ghost use mathlib.Core.List.{[], _∷_, _++_};
 ghost use Prim.Native.Nat.{_+_, _*_, _<_, _≤_};
 ghost use lib.ListN.{length, getD, take, drop};
-ghost use Rattle.graph.specs.Chains.{kept};
+ghost use Rattle.graph.specs.Chains.{listable, kept};
 ghost use Rattle.walk.specs.TableGraph.{tableSize, tableGraph};
-ghost use Rattle.listing.specs.Rows.{shown, bitsTo, isDone, rowLinks, rowsTo, bitRecords, rowRecords, rowsRecords, Wrote, listingValues, listingFor, tableLinks, listAfter};
+ghost use Rattle.listing.specs.Rows.{bitsTo, isDone, rowLinks, rowsTo, bitRecords, rowRecords, rowsRecords, Wrote, listingValues, listingFor, tableLinks, listAfter};
 ghost use Rattle.listing.specs.Records.{recordOf};
 
 // How many records were written; or how many there is no room for.
@@ -34,29 +34,33 @@ fn key_at(keys: &[u64], i: usize) -> u64
     keys[i]
 }
 
-// Whether bit b of the instance i is active and has no child.
-fn is_shown(active: &[u64], child: &[u16], n: usize, i: usize, b: u8) -> bool
+// Whether bit b of the instance i is active and has no child, or one that shows nothing. A child shows nothing exactly where the word of its active bits is 0.
+fn listable(active: &[u64], child: &[u16], n: usize, i: usize, b: u8) -> bool
     requires { ⌜ (n ≡ tableSize (now active)) × (i < n) × (b < 64) ⌝ }
-    ensures { λ r. ⌜ r ≡ shown (tableGraph (now (active .entry)) (now (child .entry))) i b ⌝ }
+    ensures { λ r. ⌜ r ≡ listable (tableGraph (now (active .entry)) (now (child .entry))) i b ⌝ }
 {
     if !numbers::bit(active[i], b) {
         return false;
     }
-    n <= walk::child_at(n, child, i * 64 + b as usize)
+    let c = walk::child_at(n, child, i * 64 + b as usize);
+    if n <= c {
+        return true;
+    }
+    active[c] == 0
 }
 
-// 1 where bit b of the instance i is shown, otherwise 0.
+// 1 where bit b of the instance i is listable, otherwise 0.
 fn count_bit(active: &[u64], child: &[u16], n: usize, i: usize, b: u8) -> usize
     requires { ⌜ (n ≡ tableSize (now active)) × (i < n) × (b < 64) ⌝ }
-    ensures { λ r. ⌜ r ≡ length (kept (shown (tableGraph (now (active .entry)) (now (child .entry))) i) (b ∷ [])) ⌝ }
+    ensures { λ r. ⌜ r ≡ length (kept (listable (tableGraph (now (active .entry)) (now (child .entry))) i) (b ∷ [])) ⌝ }
 {
-    if is_shown(active, child, n, i, b) {
+    if listable(active, child, n, i, b) {
         return 1;
     }
     0
 }
 
-// How many bits of the instance i are shown. It looks at each of its 64 bits once.
+// How many bits of the instance i are listable. It looks at each of its 64 bits once.
 fn count_bits(active: &[u64], child: &[u16], n: usize, i: usize) -> usize
     requires { ⌜ (n ≡ tableSize (now active)) × (i < n) ⌝ }
     ensures { λ r. ⌜ r ≡ length (bitsTo (tableGraph (now (active .entry)) (now (child .entry))) i 64) ⌝ }
@@ -110,7 +114,7 @@ fn put_record(list: &mut [u8], at: usize, attention: u8, bit: u8, id: u16, numbe
     list[at + 7] = 0;
 }
 
-// The record of bit b of the instance i, if it is shown: the place after it.
+// The record of bit b of the instance i, if it is listable: the place after it.
 fn put_bit(
     list: &mut [u8],
     at: usize,
@@ -124,17 +128,17 @@ fn put_bit(
     b: u8,
 ) -> usize
     requires { ⌜ (n ≡ tableSize (now active)) × (i < n) × (b < 64) ⌝ }
-    requires { ⌜ at + 8 * length (kept (shown (tableGraph (now active) (now child)) i) (b ∷ [])) ≤ length (now list) ⌝ }
-    ensures { λ r. ⌜ Wrote (now (list .entry)) (now (list .exit)) at r (bitRecords attention id number (kept (shown (tableGraph (now (active .entry)) (now (child .entry))) i) (b ∷ []))) ⌝ }
+    requires { ⌜ at + 8 * length (kept (listable (tableGraph (now active) (now child)) i) (b ∷ [])) ≤ length (now list) ⌝ }
+    ensures { λ r. ⌜ Wrote (now (list .entry)) (now (list .exit)) at r (bitRecords attention id number (kept (listable (tableGraph (now (active .entry)) (now (child .entry))) i) (b ∷ []))) ⌝ }
 {
-    if is_shown(active, child, n, i, b) {
+    if listable(active, child, n, i, b) {
         put_record(list, at, attention, b, id, number);
         return at + 8;
     }
     at
 }
 
-// The records of the shown bits of the instance i: the place after them. It looks at each of its 64 bits once.
+// The records of the listable bits of the instance i: the place after them. It looks at each of its 64 bits once.
 fn put_bits(
     list: &mut [u8],
     at: usize,

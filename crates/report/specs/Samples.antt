@@ -1,4 +1,4 @@
--- Document 01, "Bench samples": all starred samples as one table, with what the program prints for B1, and three files that show document 02 (i).
+-- Document 01, "Bench samples": all starred samples as one table, with what the program prints for B1, three files that show document 02 (i), and one that shows (iii).
 use Prim.Native.Nat.{ℕ}
 use mathlib.Core.List.{List, [], _∷_}
 use mathlib.Core.Path.{_≡_}

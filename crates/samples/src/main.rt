@@ -1,4 +1,4 @@
-// Runs the bench samples that are not in the proved table, and prints what came out of each.
+// Runs the bench samples that are not in the proved table, and further ones for change request (iii), and prints what came out of each.
 //
 // What each sample has to give is worked out from the rules and the layout in the comment above its function. Each function puts its file together in a lent buffer, from the bytes of B1 as far as they serve.
 use crate::build::part;
@@ -189,6 +189,65 @@ fn diamond(file: &mut [u8]) {
     print_isolation(b"diamond", part(file, 0, n), 3, &words, &[1, 1, 1, 1]);
 }
 
+// Silent children, on the diamond: of node 1 bits 0 and 1 are active, and of their children no bit. So both bits are listed, though each has a child; nodes 2 and 3 are reached, so there are 3 steps.
+fn silent_children(file: &mut [u8]) {
+    let n = put_diamond(file);
+    let words = [0xC000000000000000, 0, 0, 0];
+    print_isolation(
+        b"silent children",
+        part(file, 0, n),
+        3,
+        &words,
+        &[1, 1, 1, 1],
+    );
+}
+
+// A silent bottom, on the diamond: bit 0 of node 2 and bit 0 of node 3 have one child, node 4, which shows nothing. So both are listed, and node 4 is one step, the fourth. Nodes 2 and 3 show bits, all of them followed: the bits of node 1 are not listed.
+fn silent_bottom(file: &mut [u8]) {
+    let n = put_diamond(file);
+    let words = [0xC000000000000000, BIT_0, BIT_0, 0];
+    print_isolation(b"silent bottom", part(file, 0, n), 3, &words, &[1, 1, 1, 1]);
+}
+
+// Two nodes. The rule of node 1 is the reading of register 1, instance 0, and it has node 2 at bit 0 and at bit 1: 22 bytes. The only rule of node 2 is for this attention type, and is the reading of instance 1, which stands 9 bytes after the node's first: 14 bytes.
+fn put_two_nodes(file: &mut [u8], at: usize, attention: u8) -> usize {
+    let to_child = put_parent(file, at, 1, 0, 2);
+    let again = put_child(file, to_child, 0, 2);
+    let child = put_child(file, again, 1, 2);
+    let rule = put_all(file, child, &[0, 2, 1, 1, 0, 0, 1, 0, attention]);
+    put_all(file, rule, &[1, 0, 0, 1, 1])
+}
+
+// B1 up to its registers, which begin at 20; register 1 with instances 0 and 1, up to 36; "NODE" and the node count, at 40; the two nodes, at 42 and 64; and B1's root, which is node 1, instance 0.
+fn put_one_child(file: &mut [u8], attention: u8) -> usize {
+    let registers = put_b1(file, 0, 0, 20);
+    let nodes = put_register(file, registers, 1, 2);
+    let counted = put_b1(file, nodes, 31, 35);
+    let first = put_all(file, counted, &[0, 2]);
+    let roots = put_two_nodes(file, first, attention);
+    put_b1(file, roots, 51, 60)
+}
+
+// A child without a rule for type 3: bits 0 and 1 of node 1 are active, and the only rule of their child is for type 1, and would have all bits. So the child shows nothing for type 3, and both bits are listed; the child is one step.
+fn child_without_rule(file: &mut [u8]) {
+    let n = put_one_child(file, 1);
+    let words = [0xC000000000000000, 0xFFFFFFFFFFFFFFFF];
+    print_isolation(
+        b"child without a rule",
+        part(file, 0, n),
+        3,
+        &words,
+        &[1, 1],
+    );
+}
+
+// An unread child: now the rule is for type 3. The child is reached and its register is unread, so 18 at the expression that names it, at 73.
+fn unread_child(file: &mut [u8]) {
+    let n = put_one_child(file, 3);
+    let words = [0xC000000000000000, 0];
+    print_isolation(b"unread child", part(file, 0, n), 3, &words, &[1, 0]);
+}
+
 fn main() {
     let mut space = [0u8; 8192];
     let file: &mut [u8] = &mut space;
@@ -206,4 +265,8 @@ fn main() {
     nodes_256(file);
     nodes_257(file);
     diamond(file);
+    silent_children(file);
+    silent_bottom(file);
+    child_without_rule(file);
+    unread_child(file);
 }

@@ -61,6 +61,14 @@ pub or-else-some : {n c : ℕ} (o : Option ℕ) → c ≡ orElse n o → c < n �
 or-else-some none e l = absurd (omega arith)
 or-else-some (some d) e l = ap some (sym e)
 
+-- What `child_at` found, by the size of the tables.
+module _ (act ch : List ℕ) (n k : ℕ) (size : n ≡ tableSize act) {c : ℕ} (found : c ≡ orElse n (childAt n ch k)) where
+  pub found-none : n ≤ c → childAt (tableSize act) ch k ≡ none
+  found-none l = ap (λ x. childAt x ch k) (sym size) ∙ or-else-none _ found l (child-in n ch k)
+
+  pub found-some : c < n → childAt (tableSize act) ch k ≡ some c
+  found-some l = ap (λ x. childAt x ch k) (sym size) ∙ or-else-some _ found l
+
 -- One look at bit b of k.
 module _ (act ch m : List ℕ) (n k b : ℕ) (size : n ≡ tableSize act) (kn : k < n) (b64 : b < 64) where
   k-in : ltb k (tableSize act) ≡ true
@@ -73,14 +81,11 @@ module _ (act ch m : List ℕ) (n k b : ℕ) (size : n ≡ tableSize act) (kn : 
   module _ (on : bitOf 64 (getD act k 0) b ≡ true) {c : ℕ} (found : c ≡ orElse n (childAt n ch (k * 64 + b))) where
     pub outside : n ≤ c → m ≡ touched (tableGraph act ch) m k b
     unfolding touched tableGraph
-    outside l =
-        let o : childAt n ch (k * 64 + b) ≡ none = or-else-none _ found l (child-in n ch (k * 64 + b)) in
-        let p : childAt (tableSize act) ch (k * 64 + b) ≡ none = ap (λ x. childAt x ch (k * 64 + b)) (sym size) ∙ o in
-        simp (k-in, on, lt-ltb b 64 b64, p)
+    outside l = simp (k-in, on, lt-ltb b 64 b64, found-none act ch n (k * 64 + b) size found l)
 
     module _ (l : c < n) where
       there : childAt (tableSize act) ch (k * 64 + b) ≡ some c
-      there = ap (λ x. childAt x ch (k * 64 + b)) (sym size) ∙ or-else-some _ found l
+      there = found-some act ch n (k * 64 + b) size found l
 
       pub known : (getD m c 0 ≡ 0 → ⊥) → m ≡ touched (tableGraph act ch) m k b
       unfolding touched tableGraph

@@ -37,7 +37,8 @@ impl Case {
             }
             90 | 91 => generate::large_case(random),
             92..=95 => with_file(random, near_b1),
-            96 | 97 => with_file(random, hand_made),
+            96 => with_file(random, hand_made),
+            97 => hand_made_call(random),
             _ => with_file(random, any_bytes),
         };
         mix_in_faults(random, &mut isolation);
@@ -178,6 +179,23 @@ fn near_b1(random: &mut Random) -> Vec<u8> {
 fn hand_made(random: &mut Random) -> Vec<u8> {
     let cases = cases::all();
     random.pick(&cases).file.clone()
+}
+
+/// A hand-made isolation call, mostly as it is.
+fn hand_made_call(random: &mut Random) -> generate::Case {
+    let calls = cases::isolations();
+    let call = random.pick(&calls);
+    let mut case = generate::Case {
+        file: call.file.clone(),
+        attention_type: large::ATTENTION_TYPE,
+        words: call.words.clone(),
+        read: call.read.clone(),
+        room: call.room,
+    };
+    if random.one_in(3) {
+        (case.words, case.read) = generate::readings(random, case.words.len());
+    }
+    case
 }
 
 /// Bytes that begin as a file does, or not at all.

@@ -4,7 +4,7 @@
 use std::fmt;
 
 use reference::vectors::{address_of_any, expected_of_check, expected_of_pair};
-use reference::{check, isolate, report};
+use reference::{bits_above_silent, check, isolate, report};
 
 use crate::case::Case;
 use crate::proved::{self, ADDRESS_PLACES, CHECK_PLACES, ISOLATE_PLACES};
@@ -18,6 +18,9 @@ pub struct Outcomes {
     pub report: u8,
     /// The text was too short for the report.
     pub cut: bool,
+    /// A bit to list has a child that shows nothing; the list may have no room
+    /// for it.
+    pub above_silent: bool,
 }
 
 #[derive(Clone, Debug, PartialEq, Eq)]
@@ -178,12 +181,20 @@ pub fn compare(case: &Case) -> Result<Outcomes, Difference> {
     let address = compare_address(case, &file)?;
     let isolate = compare_isolate(case, &file)?;
     let (report, cut) = compare_report(case, &file)?;
+    let isolation = &case.isolation;
+    let bits_above_silent = bits_above_silent(
+        &isolation.file,
+        isolation.attention_type,
+        &isolation.words,
+        &isolation.read,
+    );
     Ok(Outcomes {
         check,
         address,
         isolate,
         report,
         cut,
+        above_silent: bits_above_silent > 0,
     })
 }
 
@@ -285,18 +296,21 @@ mod tests {
     fn the_proved_library_agrees() {
         let mut reported = [0; HIGHEST_NUMBER as usize + 1];
         let mut cut = 0;
+        let mut above_silent = 0;
         for number in 0..2_000 {
             let case = Case::seeded(1, number);
             match compare(&case) {
                 Ok(outcomes) => {
                     reported[usize::from(outcomes.report)] += 1;
                     cut += usize::from(outcomes.cut);
+                    above_silent += usize::from(outcomes.above_silent);
                 }
                 Err(difference) => panic!("{difference}\n{}", case.to_text()),
             }
         }
         assert!(reported.iter().all(|&cases| cases > 0), "{reported:?}");
         assert!(cut >= 100, "{cut}");
+        assert!(above_silent >= 100, "{above_silent}");
     }
 
     #[test]

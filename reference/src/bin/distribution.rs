@@ -6,7 +6,7 @@ use std::env;
 use std::process::ExitCode;
 
 use reference::generate::{self, Random};
-use reference::isolate;
+use reference::{bits_above_silent, isolate, refusal};
 
 const HIGHEST_NUMBER: usize = 19;
 
@@ -25,22 +25,27 @@ fn main() -> ExitCode {
     let mut random = Random::new(seed);
     let mut isolated = 0u64;
     let mut with_records = 0u64;
+    let mut above_silent = [0u64; HIGHEST_NUMBER + 1];
     let mut refused = [0u64; HIGHEST_NUMBER + 1];
     for _ in 0..cases {
         let case = generate::case(&mut random);
         let mut list = vec![0; case.room];
-        match isolate(
+        let answer = isolate(
             &case.file,
             case.attention_type,
             &case.words,
             &case.read,
             &mut list,
-        ) {
+        );
+        let number = answer.map_or_else(|refusal| usize::from(refusal.number), |_| 0);
+        let bits = bits_above_silent(&case.file, case.attention_type, &case.words, &case.read);
+        above_silent[number] += u64::from(bits > 0);
+        match answer {
             Ok((records, _)) => {
                 isolated += 1;
                 with_records += u64::from(records > 0);
             }
-            Err(refusal) => refused[usize::from(refusal.number)] += 1,
+            Err(_) => refused[number] += 1,
         }
     }
 
@@ -48,6 +53,11 @@ fn main() -> ExitCode {
     println!("cases {cases} seed {seed}");
     println!("accepted {}", isolated + after_check);
     println!("isolated {isolated} with-records {with_records}");
+    println!(
+        "bits-above-silent isolated {} refused-19 {}",
+        above_silent[0],
+        above_silent[usize::from(refusal::NO_ROOM)]
+    );
     for (number, count) in refused.iter().enumerate().skip(1) {
         println!("refused-{number} {count}");
     }

@@ -25,10 +25,13 @@ fn main() -> ExitCode {
         return ExitCode::FAILURE;
     };
     let mut outcomes: BTreeMap<(Kind, u32), usize> = BTreeMap::new();
+    let mut above_silent: BTreeMap<u32, usize> = BTreeMap::new();
     for vector in &all {
-        *outcomes
-            .entry((vector.kind, vector.expected[0]))
-            .or_default() += 1;
+        let number = vector.expected[0];
+        *outcomes.entry((vector.kind, number)).or_default() += 1;
+        if vector.bits_above_silent() > 0 {
+            *above_silent.entry(number).or_default() += 1;
+        }
     }
     for (kind, name) in [
         (Kind::Check, "check"),
@@ -41,6 +44,11 @@ fn main() -> ExitCode {
         }
         println!();
     }
+    print!("bits above silent children");
+    for (number, count) in above_silent {
+        print!(" {number}:{count}");
+    }
+    println!();
     println!("cases {} bytes {} seed {seed}", all.len(), bytes.len());
 
     if let Err(error) = fs::write(path, &bytes) {

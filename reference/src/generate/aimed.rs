@@ -5,6 +5,7 @@ use super::captures::capture_unreadable;
 use super::damage::{any_field, damaged_file};
 use super::draft::{valid_file, Field, FieldKind, FieldMap, Shape};
 use super::random::Random;
+use super::silent::silence_children;
 use super::{readings, room, Case};
 use crate::checker::Accepted;
 use crate::isolation::{isolate, RECORD_BYTES};
@@ -55,6 +56,9 @@ pub fn aimed_case(random: &mut Random, number: u8, sizes: Sizes) -> Case {
         read,
         room: room(random),
     };
+    if random.one_in(2) {
+        silence_children(random, &mut case);
+    }
     match number {
         0 => {
             case.read.fill(READ);
@@ -85,7 +89,7 @@ pub fn aimed_case(random: &mut Random, number: u8, sizes: Sizes) -> Case {
         }
         refusal::NO_ROOM => {
             case.read.fill(READ);
-            if random.one_in(2) {
+            if random.one_in(3) {
                 case.words.fill(u64::MAX);
             }
             let needed = exact_room(&case);
@@ -411,10 +415,10 @@ pub fn large_case(random: &mut Random) -> Case {
         }
         _ => {}
     }
-    let (words, mut read) = if random.one_in(3) {
-        (vec![u64::MAX; instances], vec![READ; instances])
-    } else {
-        super::readings(random, instances.max(1))
+    let (words, mut read) = match random.below(6) {
+        0 | 1 => (vec![u64::MAX; instances], vec![READ; instances]),
+        2 => (all_or_nothing(random, instances), vec![READ; instances]),
+        _ => super::readings(random, instances.max(1)),
     };
     if random.one_in(2) {
         read.iter_mut().for_each(|byte| *byte = READ);
@@ -436,22 +440,45 @@ pub fn large_case(random: &mut Random) -> Case {
     }
 }
 
-/// A row of 256 node instances with about as many active bits without a child
-/// as the station's list holds records.
+/// Words with all bits or none. The first and the last have all, since one of
+/// them is mostly the root's.
+fn all_or_nothing(random: &mut Random, count: usize) -> Vec<u64> {
+    let one_in = random.between(2, 30);
+    let mut words: Vec<u64> = (0..count)
+        .map(|_| if random.one_in(one_in) { u64::MAX } else { 0 })
+        .collect();
+    if let [first, .., last] = &mut words[..] {
+        *first = u64::MAX;
+        *last = u64::MAX;
+    }
+    words
+}
+
+/// A row of 256 node instances with about as many bits to list as the station's
+/// list holds records. Half of the time those behind some place show nothing.
 pub fn full_list_case(random: &mut Random) -> Case {
     let records = match random.below(4) {
         0 => LIST_RECORDS,
         1 => LIST_RECORDS + 1,
         _ => random.between(LIST_RECORDS - 100, LIST_RECORDS + 100),
     };
-    // Bit 0 has the child of each instance but the last in the row, of which it
-    // is not active.
     let backward = random.one_in(2);
-    let mut words = vec![1 << HIGHEST_BIT; MAX_NODE_INSTANCES];
-    words[if backward { 0 } else { MAX_NODE_INSTANCES - 1 }] = 0;
-    let mut left = records;
+    let showing = match random.below(2) {
+        0 => MAX_NODE_INSTANCES,
+        _ => random.between(80, MAX_NODE_INSTANCES - 1),
+    };
+    let place = |rank: usize| match backward {
+        true => MAX_NODE_INSTANCES - 1 - rank,
+        false => rank,
+    };
+    // Bit 0 has the child. It is listed for the last one that shows something.
+    let mut words = vec![0; MAX_NODE_INSTANCES];
+    for rank in 0..showing {
+        words[place(rank)] = 1 << HIGHEST_BIT;
+    }
+    let mut left = records - 1;
     while left > 0 {
-        let word = random.pick_mut(&mut words);
+        let word = &mut words[place(random.below(showing))];
         let bit = 1 << random.below(HIGHEST_BIT.into());
         if *word & bit == 0 {
             *word |= bit;
@@ -470,6 +497,7 @@ pub fn full_list_case(random: &mut Random) -> Case {
 #[cfg(test)]
 mod tests {
     use super::*;
+    use crate::isolation::bits_above_silent;
 
     /// At least a fifth of the cases for a number are refused by it.
     #[test]
@@ -499,14 +527,18 @@ mod tests {
     fn about_a_full_list() {
         let mut random = Random::new(20);
         let mut seen = [0; 3];
-        for _ in 0..60 {
+        let mut above_silent = 0;
+        for _ in 0..600 {
             let case = full_list_case(&mut random);
             let records = exact_room(&case) / RECORD_BYTES;
             assert!(records.abs_diff(LIST_RECORDS) <= 100, "{records}");
+            above_silent +=
+                bits_above_silent(&case.file, case.attention_type, &case.words, &case.read);
             if let Some(seen) = seen.get_mut((records + 1).wrapping_sub(LIST_RECORDS)) {
                 *seen += 1;
             }
         }
         assert!(seen[1] > 3 && seen[2] > 3, "{seen:?}");
+        assert!((250..350).contains(&above_silent), "{above_silent}");
     }
 }

@@ -108,7 +108,15 @@ pub struct Shape {
     pub most_expressions: usize,
     /// One rule in so many goes down to the highest level.
     pub deep_rule_one_in: usize,
+    /// Of ten node instances, so many show nothing for most types whatever the
+    /// readings are.
+    pub silent_in_ten: usize,
+    /// Of ten rules of the others, so many have active bits with a child
+    /// whatever the readings are.
+    pub leading_in_ten: usize,
 }
+
+const SHARES_IN_TEN: [usize; 4] = [0, 2, 5, 8];
 
 impl Shape {
     pub fn any(random: &mut Random) -> Self {
@@ -128,6 +136,8 @@ impl Shape {
             most_children: random.between(0, 3),
             most_expressions: random.between(1, 6),
             deep_rule_one_in: 20,
+            silent_in_ten: *random.pick(&SHARES_IN_TEN),
+            leading_in_ten: *random.pick(&SHARES_IN_TEN),
         }
     }
 
@@ -139,6 +149,8 @@ impl Shape {
             most_children: random.between(1, 12),
             most_expressions: random.between(1, 12),
             deep_rule_one_in: 40,
+            silent_in_ten: *random.pick(&SHARES_IN_TEN),
+            leading_in_ten: *random.pick(&SHARES_IN_TEN),
         }
     }
 
@@ -150,6 +162,8 @@ impl Shape {
             most_children: random.between(1, 16),
             most_expressions: random.between(1, 8),
             deep_rule_one_in: 100,
+            silent_in_ten: *random.pick(&SHARES_IN_TEN),
+            leading_in_ten: *random.pick(&SHARES_IN_TEN),
         }
     }
 
@@ -221,6 +235,8 @@ struct NodeInstance {
     id: u16,
     number: u8,
     attention_types: Vec<u8>,
+    /// Its rules have no bit.
+    is_silent: bool,
     rank: usize,
 }
 
@@ -252,7 +268,7 @@ impl<'a> Draft<'a> {
             })
             .collect();
         let nodes = nodes(random, shape.node_instances);
-        let node_instances = node_instances(random, &nodes, shape.node_instances);
+        let node_instances = node_instances(random, &nodes, &shape);
         let mut by_rank: Vec<usize> = (0..node_instances.len()).collect();
         by_rank.sort_by_key(|&position| node_instances[position].rank);
         Draft {
@@ -335,6 +351,7 @@ impl<'a> Draft<'a> {
     fn write_node_instance(&mut self, position: usize, usable: &[RegisterInstance]) {
         let instance = &self.node_instances[position];
         let attention_types = instance.attention_types.clone();
+        let is_silent = instance.is_silent;
         let number = instance.number;
         let first_later = instance.rank + 1;
 
@@ -362,12 +379,16 @@ impl<'a> Draft<'a> {
             self.map
                 .put_byte(FieldKind::CaptureInstance, register.number);
         }
+        let bits = self.random.different_bits(children);
+        let with_child = bits.iter().fold(0, |word, bit| word | 1 << (63 - bit));
         for attention_type in attention_types {
             self.map.put_byte(FieldKind::RuleAttention, attention_type);
-            self.write_rule_expression(usable);
+            self.write_rule_expression(usable, is_silent, with_child);
         }
-        for bit in self.random.different_bits(children) {
-            let later = *self.random.pick(&self.by_rank[first_later..]);
+        let mut before = None;
+        for bit in bits {
+            let later = child(self.random, &self.by_rank[first_later..], before);
+            before = Some(later);
             let child = &self.node_instances[later];
             self.map.put_byte(FieldKind::ChildBit, bit);
             self.map.put_node(FieldKind::ChildNode, child.id);
@@ -375,22 +396,33 @@ impl<'a> Draft<'a> {
         }
     }
 
-    fn write_rule_expression(&mut self, usable: &[RegisterInstance]) {
+    fn write_rule_expression(
+        &mut self,
+        usable: &[RegisterInstance],
+        is_silent: bool,
+        with_child: u64,
+    ) {
         let mut writer = ExpressionWriter {
             random: self.random,
             map: &mut self.map,
             usable,
             left: self.shape.most_expressions,
         };
-        if writer.random.one_in(self.shape.deep_rule_one_in) {
+        if is_silent {
+            writer.write_silent();
+        } else if with_child != 0 && writer.random.below(10) < self.shape.leading_in_ten {
+            writer.write_leading(with_child);
+        } else if writer.random.one_in(self.shape.deep_rule_one_in) {
             writer.write_deep();
+        } else if writer.random.one_in(5) {
+            writer.write_leaf();
         } else {
             writer.write(MAX_EXPRESSION_LEVEL);
         }
     }
 
     /// Roots for some of the attention types that have a rule, mostly at
-    /// instances of a low rank.
+    /// instances of a low rank whose rules have a bit.
     fn write_roots(&mut self) {
         let mut roots = Vec::new();
         for attention_type in 1..=5 {
@@ -399,8 +431,11 @@ impl<'a> Draft<'a> {
                 .iter()
                 .filter(|instance| instance.attention_types.contains(&attention_type))
                 .collect();
-            able.sort_by_key(|instance| instance.rank);
-            if able.is_empty() || (!roots.is_empty() && self.random.one_in(3)) {
+            able.sort_by_key(|instance| (instance.is_silent, instance.rank));
+            // Seldom for a type that few have a rule for.
+            let is_rare = able.len() * 3 < self.node_instances.len();
+            let is_left_out = self.random.one_in(3) || is_rare && !self.random.one_in(4);
+            if able.is_empty() || (!roots.is_empty() && is_left_out) {
                 continue;
             }
             let root = if self.random.one_in(4) {
@@ -476,12 +511,12 @@ fn nodes(random: &mut Random, instances: usize) -> Vec<Node> {
     nodes
 }
 
-fn node_instances(random: &mut Random, nodes: &[Node], count: usize) -> Vec<NodeInstance> {
+fn node_instances(random: &mut Random, nodes: &[Node], shape: &Shape) -> Vec<NodeInstance> {
     let mut usual: Vec<u8> = (1..=5).collect();
     random.shuffle(&mut usual);
-    usual.truncate(random.between(1, 3));
+    let unusual = usual.split_off(random.between(1, 3));
 
-    let mut ranks: Vec<usize> = (0..count).collect();
+    let mut ranks: Vec<usize> = (0..shape.node_instances).collect();
     match random.below(3) {
         0 => {}
         1 => ranks.reverse(),
@@ -494,7 +529,16 @@ fn node_instances(random: &mut Random, nodes: &[Node], count: usize) -> Vec<Node
     names
         .zip(ranks)
         .map(|((id, number), rank)| {
-            let mut attention_types = if random.one_in(6) {
+            // A third of the silent ones have rules, but none for the usual
+            // types.
+            let mut is_silent = rank > 0 && random.below(10) < shape.silent_in_ten;
+            let mut attention_types = if is_silent && random.one_in(3) {
+                is_silent = false;
+                let mut others = unusual.clone();
+                random.shuffle(&mut others);
+                others.truncate(random.between(1, others.len()));
+                others
+            } else if random.one_in(6) {
                 let mut any: Vec<u8> = (1..=5).collect();
                 random.shuffle(&mut any);
                 any.truncate(random.between(1, 5));
@@ -507,10 +551,23 @@ fn node_instances(random: &mut Random, nodes: &[Node], count: usize) -> Vec<Node
                 id,
                 number,
                 attention_types,
+                is_silent,
                 rank,
             }
         })
         .collect()
+}
+
+/// One of the instances of a higher rank: often the first of them, so that
+/// there are long chains, or the last, so that many share it, or the child of
+/// the bit before.
+fn child(random: &mut Random, later: &[usize], before: Option<usize>) -> usize {
+    match (random.below(6), before) {
+        (0, _) | (1, None) => later[0],
+        (2 | 3, _) => later[later.len() - 1],
+        (4, Some(before)) => before,
+        _ => *random.pick(later),
+    }
 }
 
 /// Instance counts of 1 to 255 that make `total`.
@@ -564,10 +621,75 @@ impl ExpressionWriter<'_> {
         self.write_leaf();
     }
 
+    /// An expression without a bit, whatever the readings are.
+    fn write_silent(&mut self) {
+        let all_levels = MAX_EXPRESSION_LEVEL;
+        match self.random.below(8) {
+            0 => {
+                self.map.put_byte(FieldKind::ExpressionType, EXPRESSION_NOT);
+                self.put_constant(u64::MAX);
+            }
+            1 => {
+                let shift = *self.random.pick(&[64, 65, 128, 255]);
+                let kind = *self
+                    .random
+                    .pick(&[EXPRESSION_SHIFT_LEFT, EXPRESSION_SHIFT_RIGHT]);
+                self.put_shift(kind, shift);
+                self.write(all_levels - 1);
+            }
+            2 | 3 => {
+                // The operands in either order.
+                self.put_operation(EXPRESSION_AND, 2);
+                let is_first = self.random.one_in(2);
+                if is_first {
+                    self.put_constant(0);
+                }
+                self.write(all_levels - 1);
+                if !is_first {
+                    self.put_constant(0);
+                }
+            }
+            4 if !self.usable.is_empty() => {
+                let register = *self.random.pick(self.usable);
+                self.put_operation(EXPRESSION_AND, 2);
+                self.put_register(register);
+                self.map.put_byte(FieldKind::ExpressionType, EXPRESSION_NOT);
+                self.put_register(register);
+            }
+            5 => {
+                let word = self.random.next();
+                self.put_operation(EXPRESSION_AND, 2);
+                self.put_constant(word);
+                self.put_constant(!word);
+            }
+            _ => self.put_constant(0),
+        }
+    }
+
+    /// An expression with some or all of these bits, whatever the readings are.
+    fn write_leading(&mut self, bits: u64) {
+        let some = match bits & self.random.next() {
+            0 => bits,
+            some => some,
+        };
+        match self.random.below(6) {
+            0 => self.put_constant(some),
+            1 => self.put_constant(bits),
+            2 => {
+                let more = self.random.next() & self.random.next();
+                self.put_constant(bits | more);
+            }
+            _ => {
+                self.put_operation(EXPRESSION_OR, 2);
+                self.put_constant(some);
+                self.write_leaf();
+            }
+        }
+    }
+
     fn write_operation(&mut self, kind: u8, levels: usize) {
         let operands = self.random.between(2, self.left.min(6));
-        self.map.put_byte(FieldKind::ExpressionType, kind);
-        self.map.put_byte(FieldKind::OperandCount, operands as u8);
+        self.put_operation(kind, operands as u8);
         for _ in 0..operands {
             self.write(levels - 1);
         }
@@ -580,6 +702,11 @@ impl ExpressionWriter<'_> {
         };
         self.put_shift(kind, shift);
         self.write(levels - 1);
+    }
+
+    fn put_operation(&mut self, kind: u8, operands: u8) {
+        self.map.put_byte(FieldKind::ExpressionType, kind);
+        self.map.put_byte(FieldKind::OperandCount, operands);
     }
 
     fn put_shift(&mut self, kind: u8, shift: u8) {
@@ -595,17 +722,25 @@ impl ExpressionWriter<'_> {
                 2 => 1 << self.random.below(64),
                 _ => self.random.next(),
             };
-            self.map
-                .put_byte(FieldKind::ExpressionType, EXPRESSION_CONSTANT);
-            self.map.put(FieldKind::Constant, &constant.to_be_bytes());
+            self.put_constant(constant);
         } else {
             let register = *self.random.pick(self.usable);
-            self.map
-                .put_byte(FieldKind::ExpressionType, EXPRESSION_REGISTER);
-            self.map
-                .put_register(FieldKind::ExpressionRegister, register.id);
-            self.map
-                .put_byte(FieldKind::ExpressionInstance, register.number);
+            self.put_register(register);
         }
+    }
+
+    fn put_constant(&mut self, constant: u64) {
+        self.map
+            .put_byte(FieldKind::ExpressionType, EXPRESSION_CONSTANT);
+        self.map.put(FieldKind::Constant, &constant.to_be_bytes());
+    }
+
+    fn put_register(&mut self, register: RegisterInstance) {
+        self.map
+            .put_byte(FieldKind::ExpressionType, EXPRESSION_REGISTER);
+        self.map
+            .put_register(FieldKind::ExpressionRegister, register.id);
+        self.map
+            .put_byte(FieldKind::ExpressionInstance, register.number);
     }
 }

@@ -1,4 +1,4 @@
--- The invariant: the shown ones of the first b bits have been counted.
+-- The invariant: the listable ones of the first b bits have been counted.
 use mathlib.Core.Path.{_≡_}
 use Prim.Native.Nat.{_≤_, _-_, _+_}
 use borrow.Author.Needs.{needs}

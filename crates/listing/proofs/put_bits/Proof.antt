@@ -4,9 +4,9 @@ use mathlib.Core.List.{[], _∷_}
 use Prim.Native.Nat.{_≤_, _-_}
 use borrow.Author.Needs.{needs}
 use native.Mathlib.Omega.{arith}
-use Rattle.graph.specs.Chains.{kept}
+use Rattle.graph.specs.Chains.{listable, kept}
 use Rattle.walk.specs.TableGraph.{tableGraph}
-use Rattle.listing.specs.Rows.{shown, bitsTo, bitRecords, Wrote}
+use Rattle.listing.specs.Rows.{bitsTo, bitRecords, Wrote}
 use Rattle.listing.proofs.WriteLaws.{records-length, bits-started, bits-wrote, bits-finished, room-next}
 use Rattle.listing.proofs.put_bits.Statement.{statement}
 use Rattle.listing.proofs.put_bits.Tie as tie
@@ -40,7 +40,7 @@ loop-again c =
     let w = p .put-bit .ensures in (
       search needs,
       bits-wrote _ _ _ _ _ _ (l .loop .inv .1) w
-          (omega (arith, r, w .ends, records-length (a .attention) (a .id) (a .number) (kept (shown g (a .i)) (l .loop .b ∷ [])))),
+          (omega (arith, r, w .ends, records-length (a .attention) (a .id) (a .number) (kept (listable g (a .i)) (l .loop .b ∷ [])))),
     )
 
 returns : tie.Need-returns Inv-loop μ-loop

@@ -295,6 +295,7 @@ fn main() {
     let mixed = large::mixed_children(large::MOST_CHILDREN);
     let top_bit = [1u64 << 63; 1_024];
     let all_bits = [u64::MAX; 1_024];
+    let every_fourth = large::every_fourth();
     let read = [1u8; 1_024];
 
     let full = large::full_counts();
@@ -332,6 +333,12 @@ fn main() {
             "a 256-instance file, 60 children each, mixed",
             &mixed,
             &all_bits[..256],
+            &read[..256],
+        ),
+        isolate(
+            "a 256-instance file, 60 children each, most silent",
+            &forward,
+            &every_fourth,
             &read[..256],
         ),
         isolate(

@@ -12,6 +12,7 @@ use std::process::ExitCode;
 use compare::case::Case;
 use compare::difference::compare;
 use reference::generate::HIGHEST_NUMBER;
+use reference::refusal;
 
 const USAGE: &str = "usage: fuzz [--trace] [CASES [SEED]]
        fuzz --show SEED NUMBER
@@ -79,6 +80,7 @@ fn run(numbers: &[&str], trace: bool) -> ExitCode {
     let mut isolated = checked;
     let mut reported = checked;
     let mut cut = 0u64;
+    let mut above_silent = [0u64; HIGHEST_NUMBER as usize + 1];
     for number in 0..cases {
         if trace {
             eprintln!("case {number}");
@@ -91,6 +93,7 @@ fn run(numbers: &[&str], trace: bool) -> ExitCode {
                 isolated[usize::from(outcomes.isolate)] += 1;
                 reported[usize::from(outcomes.report)] += 1;
                 cut += u64::from(outcomes.cut);
+                above_silent[usize::from(outcomes.isolate)] += u64::from(outcomes.above_silent);
             }
             Err(difference) => {
                 println!("case {number} of seed {seed}: {difference}");
@@ -103,6 +106,11 @@ fn run(numbers: &[&str], trace: bool) -> ExitCode {
 
     println!("cases {cases} seed {seed}, no difference");
     println!("reports with a text too short for them {cut}");
+    println!(
+        "isolations that list a bit whose child shows nothing {}, and that have no room for it {}",
+        above_silent[0],
+        above_silent[usize::from(refusal::NO_ROOM)]
+    );
     println!("number check address isolate report");
     for number in 0..checked.len() {
         println!(
