@@ -1,17 +1,17 @@
 -- The tables of a chip that meets the rules say what the chip says: their graph is the chip's.
-use Prim.Native.Nat.{ℕ, _+_, _-_, _*_, _^_, _≤_, _<_}
-use mathlib.Core.Bool.{Bool, true, false, cond, _&&_}
+use Prim.Native.Nat.{ℕ, _+_, _*_, _≤_, _<_}
+use mathlib.Core.Bool.{true, false, cond, _&&_}
 use mathlib.Core.List.{List, [], _∷_, _++_, map}
 use mathlib.Core.Logic.{⊎-elim}
 use mathlib.Core.Option as option
 use mathlib.Core.Option.{Option, none}
 use mathlib.Core.Path.{_≡_, refl, sym, _∙_, ap}
-use native.Mathlib.Nat.{zero-div}
 use native.Mathlib.Omega.{arith}
 use lib.Dec.{ltb}
 use lib.ListN.{length, getD, length-map}
 use borrow.Author.Tests.{lt-ltb, le-ltb}
 use Rattle.numbers.specs.Bits.{bitOf}
+use Rattle.numbers.proofs.BitsLaws.{zero-bit}
 use Rattle.graph.specs.Chains.{reachedFrom, reachedCount}
 use Rattle.format.specs.Limits.{levels, nodeLimit}
 use Rattle.format.specs.Lookup.{some, at, gathered, NodeEntry, nodeEntries, registerPosition}
@@ -42,15 +42,6 @@ use Rattle.format.proofs.FindingLaws.{rule-cases, child-inside}
 use Rattle.isolation.proofs.ActivityLaws.{no-rule, one-rule}
 use Rattle.isolation.proofs.ChipLaws.{chip-sound}
 use Rattle.isolation.proofs.GraphsLaws.{Agree, agree-reached, reached-same, listing-same, count-reached-same}
-
--- No bit of 0 is set.
-bit-none : (w b : ℕ) → bitOf w 0 b ≡ false
-unfolding bitOf
-bit-none w b = rw (zero-div (2 ^ (w - 1 - b))) (go (ltb b w))
-  where
-    go : (t : Bool) → t && false ≡ false
-    go true = refl
-    go false = refl
 
 module _ (c : Chip) (meets : Meets c) where
   pub entries-few : length (nodeEntries c) ≤ 256
@@ -102,7 +93,7 @@ module _ (c : Chip) (meets : Meets c) where
 
       go : (fs : List Fault) → bitOf 64 (cond (faulty fs) 0 v) b ≡ isNone fs && bitOf 64 v b
       go [] = refl
-      go (f ∷ fs) = bit-none 64 b
+      go (f ∷ fs) = zero-bit 64 b
 
   -- The expressions of a node instance fit.
   abbrev RulesFit : NodeEntry → Type 0
@@ -126,7 +117,7 @@ module _ (c : Chip) (meets : Meets c) where
     entry-bit b e h =
         ⊎-elim
         (λ z.
-        ap (λ x. bitOf 64 x b) (no-rule (registerKeys c) words read attention e z .0) ∙ bit-none 64 b ∙ sym (entry-none b e z))
+        ap (λ x. bitOf 64 x b) (no-rule (registerKeys c) words read attention e z .0) ∙ zero-bit 64 b ∙ sym (entry-none b e z))
         (λ z.
         ap (λ x. bitOf 64 x b) (one-rule (registerKeys c) words read attention e (z .0) (z .2) .0) ∙ rule-bit words read b (z .0) (z .1)
         ∙ sym (entry-one b e (z .0) (z .2)))

@@ -14,6 +14,7 @@ use Rattle.numbers.specs.BigEndian.{bytesOf}
 use Rattle.numbers.proofs.BitsLaws.{zero-bit, word-none}
 use Rattle.numbers.proofs.Bools.{same-truth}
 use Rattle.graph.specs.Chains.{Graph, link, Silent, silent, nothingBelow, listable, below, kept}
+use Rattle.graph.proofs.BelowLaws.{below-length}
 use Rattle.graph.proofs.ChainsLaws.{silent-words}
 use Rattle.format.specs.Lookup.{gathered}
 use Rattle.format.proofs.GatheredLaws.{gathered-append, gathered-one}
@@ -108,11 +109,6 @@ module _ (g : Graph) where
       go : (t : Bool) → length (kept p xs) ≤ length xs → length (cond t (x ∷ kept p xs) (kept p xs)) ≤ suc (length xs)
       go true h = omega arith
       go false h = omega arith
-
-  below-length : (n : ℕ) → length (below n) ≡ n
-  unfolding below
-  below-length zero = refl
-  below-length (suc n) = length-append (below n) (n ∷ []) ∙ omega (arith, below-length n)
 
   pub bits-few : (i n : ℕ) → length (bitsTo g i n) ≤ n
   unfolding bitsTo

@@ -1,15 +1,13 @@
 -- The laws of words of w bits. Every one holds at each width.
 use Prim.Native.Nat.{ℕ, zero, suc, _+_, _-_, _*_, _/_, _%_, _^_, _≤_, _<_}
 use mathlib.Core.Bool.{Bool, true, false, not, _&&_, _||_}
-use mathlib.Core.Logic.{⊎-elim}
 use mathlib.Core.Path.{_≡_, refl, sym, _∙_, ap, subst}
-use native.Mathlib.Nat.{pow-suc, add-zero, add-suc, zero-mul, zero-add, div-one}
+use native.Mathlib.Nat.{pow-suc, add-zero, add-suc, zero-mul, zero-add, zero-div, div-one}
 use native.Mathlib.Omega.{arith}
-use borrow.Author.Tests.{lt-ltb, le-ltb, le-leb, lt-leb, ltb-true, ltb-false}
+use borrow.Author.Tests.{lt-ltb, le-ltb, le-leb, lt-leb}
 use lib.Bits.{bitAnd, bitOr, and-block, or-block}
 use lib.Pow.{high, low, pow-add, shl-lt, shr-shr}
 use lib.Dec.{eqb, ltb, lit<}
-use Rattle.numbers.proofs.Bools.{either}
 use Rattle.numbers.specs.Bits.{Bits, digit, wordOf, bitOf, notBits, andBits, orBits, leftBits, rightBits, notWord, andWord, orWord, leftWord, rightWord}
 
 -- Words and their bits
@@ -98,10 +96,12 @@ word-bits (suc w) x h = rw (word-ext w (bitOf (suc w) x) (bitOf w (x / 2)) upper
 -- A word is 0 exactly where it has no bit.
 
 pub zero-bit : (w i : ℕ) → bitOf w 0 i ≡ false
-zero-bit w i =
-    ⊎-elim (λ e. ap (λ x. bitOf w x i) (sym (word-zero w (λ j. false) (λ j l. refl))) ∙ bit-word w (λ j. false) i (ltb-true i w e))
-    (λ e. bit-out w 0 i (ltb-false i w e))
-    (either (ltb i w))
+unfolding bitOf
+zero-bit w i = rw (zero-div (2 ^ (w - 1 - i))) (go (ltb i w))
+  where
+    go : (t : Bool) → t && false ≡ false
+    go true = refl
+    go false = refl
 
 pub word-none : (w x : ℕ) → x < 2 ^ w → ((i : ℕ) → i < w → bitOf w x i ≡ false) → x ≡ 0
 word-none w x h f = sym (word-bits w x h) ∙ word-zero w (bitOf w x) f
