@@ -1,7 +1,8 @@
-//! Hand-made checker cases, and isolation calls in a module of their own. The
+//! Hand-made checker cases, and isolation calls in modules of their own. The
 //! verdicts are written from the papers; offsets stand beside the pieces that
 //! files are put together from.
 
+mod bits;
 mod isolation;
 
 pub use isolation::Isolation;
@@ -89,7 +90,19 @@ const REGISTER_1: &str = "01 00 00 01 00";
 
 /// The isolation calls.
 pub fn isolations() -> Vec<Isolation> {
+    let mut calls = isolations_of_files();
+    calls.extend(isolations_of_bits());
+    calls
+}
+
+/// Those on files of up to four nodes.
+pub fn isolations_of_files() -> Vec<Isolation> {
     isolation::all()
+}
+
+/// Those with patterns of bits.
+pub fn isolations_of_bits() -> Vec<Isolation> {
+    bits::all()
 }
 
 /// The checker cases.

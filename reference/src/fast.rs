@@ -207,17 +207,17 @@ impl Line {
     }
 }
 
-/// The numbers of a word's bits, from 0 up. Bit 0 is leftmost; the word is
-/// turned round once, because the rightmost bit is the cheaper one to take.
+/// The numbers of a word's bits, from 0 up. Bit 0 is leftmost, so the zeros
+/// before the first 1 are the number of the next bit. One pass for each bit.
 #[inline]
 fn bits_of(word: u64) -> impl Iterator<Item = u8> {
-    let mut left = word.reverse_bits();
+    let mut left = word;
     std::iter::from_fn(move || {
         if left == 0 {
             return None;
         }
-        let bit = left.trailing_zeros() as u8;
-        left &= left - 1;
+        let bit = left.leading_zeros() as u8;
+        left ^= mask_of(bit);
         Some(bit)
     })
 }

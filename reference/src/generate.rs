@@ -108,7 +108,7 @@ pub fn readings(random: &mut Random, instances: usize) -> (Vec<u64>, Vec<u8>) {
 fn word(random: &mut Random, density: usize) -> u64 {
     match density {
         0 => *random.pick(&[0, 1, 1 << 63, u64::MAX]),
-        1 => 1 << random.below(64),
+        1 => 1 << random.bit(),
         2 => random.next() & random.next() & random.next(),
         3 => random.next() | random.next() | random.next(),
         _ => random.next(),
@@ -192,6 +192,37 @@ mod tests {
             }
             assert_eq!(at, map.bytes.len());
         }
+    }
+
+    /// Of the words that isolation finds for the instances it reaches, many
+    /// have no bit, one, most or all.
+    #[test]
+    fn words_of_every_kind() {
+        let mut random = Random::new(10);
+        let mut words = Vec::new();
+        for _ in 0..10_000 {
+            let case = case(&mut random);
+            words.extend(isolation::reached_words(
+                &case.file,
+                case.attention_type,
+                &case.words,
+                &case.read,
+            ));
+        }
+        let count = |holds: fn(u64) -> bool| words.iter().filter(|&&word| holds(word)).count();
+        let counts = [
+            count(|word| word == 0),
+            count(|word| word == 1 << 63),
+            count(|word| word == 1),
+            count(|word| word.count_ones() == 1),
+            count(|word| (48..64).contains(&word.count_ones())),
+            count(|word| word == u64::MAX),
+        ];
+        let fewest = words.len() / 50;
+        assert!(counts.iter().all(|&count| count > fewest), "{counts:?}");
+        // Each of the 64 alone.
+        let is_there = |bit: u8| words.contains(&(1 << bit));
+        assert!((0..64).all(is_there));
     }
 
     /// A cut is refused at the start of the field it falls into.

@@ -70,6 +70,22 @@ pub fn bits_above_silent(file: &[u8], attention_type: u8, words: &[u64], read: &
     list.iter().filter(has_child).count()
 }
 
+/// The active bits of each instance that is reached, in file order. They are
+/// given also where the list has no room; where the call is refused otherwise
+/// there are none.
+pub fn reached_words(file: &[u8], attention_type: u8, words: &[u64], read: &[u8]) -> Vec<u64> {
+    let active = || {
+        let accepted = Accepted::read(file)?;
+        let root = accepted.root(attention_type)?;
+        let readings = Readings::fit(&accepted.tree, words, read)?;
+        accepted.active(root, attention_type, readings)
+    };
+    active().map_or_else(
+        |_: Refusal| Vec::new(),
+        |words| words.into_iter().flatten().collect(),
+    )
+}
+
 /// What isolation knows of one node instance.
 #[derive(Clone, Copy, PartialEq, Eq)]
 enum Mark {
@@ -99,16 +115,7 @@ impl Accepted {
         readings: Readings<'_>,
         list: &mut [u8],
     ) -> Result<(usize, usize), Refusal> {
-        let marks = self.walk(root, attention_type, readings);
-
-        // The active bits of each instance that is reached.
-        let mut active = vec![None; marks.len()];
-        for (active, mark) in active.iter_mut().zip(marks) {
-            let Mark::Done(bits) = mark else { continue };
-            let bits = bits.map_err(|unread| Refusal::new(refusal::REGISTER_UNREAD, unread.at))?;
-            *active = Some(bits);
-        }
-
+        let active = self.active(root, attention_type, readings)?;
         let mut records = Vec::new();
         let mut steps = 0;
         for (instance, &bits) in self.tree.node_instances.iter().zip(&active) {
@@ -125,6 +132,23 @@ impl Accepted {
             place.copy_from_slice(record);
         }
         Ok((records.len(), steps))
+    }
+
+    /// The active bits of each instance that is reached.
+    fn active(
+        &self,
+        root: usize,
+        attention_type: u8,
+        readings: Readings<'_>,
+    ) -> Result<Vec<Option<u64>>, Refusal> {
+        let marks = self.walk(root, attention_type, readings);
+        let mut active = vec![None; marks.len()];
+        for (active, mark) in active.iter_mut().zip(marks) {
+            let Mark::Done(bits) = mark else { continue };
+            let bits = bits.map_err(|unread| Refusal::new(refusal::REGISTER_UNREAD, unread.at))?;
+            *active = Some(bits);
+        }
+        Ok(active)
     }
 
     /// The marks when none waits: an instance is done exactly if it is

@@ -225,9 +225,15 @@ fn deep_rule(position: usize, most_bytes: usize) -> Vec<u8> {
 /// Node instances that each have a register of their own as their rule, and
 /// children at the first bits, by position.
 pub fn graph(children: &[Vec<usize>], root: usize) -> Vec<u8> {
+    graph_from(0, children, root)
+}
+
+/// The same with the first child at this bit, the second at the next one, and
+/// so on.
+fn graph_from(first_bit: u8, children: &[Vec<usize>], root: usize) -> Vec<u8> {
     let mut nodes = Nodes::plain(children.len(), |position| register_name(position, 1));
     for (instance, children) in nodes.instances.iter_mut().zip(children) {
-        instance.children = (0..).zip(children.iter().copied()).collect();
+        instance.children = (first_bit..).zip(children.iter().copied()).collect();
     }
     let ids = Order::Rising.ids(children.len());
     nodes.write_with(&ids, root, start(children.len(), 1))
@@ -244,6 +250,12 @@ pub fn children(children: usize, backward: bool) -> Vec<u8> {
         true => (0..=last).rev().collect(),
     };
     graph(&row(children, &places), places[0])
+}
+
+/// As [`children`] forward with one child each, at this bit.
+pub fn row_at(bit: u8) -> Vec<u8> {
+    let places: Vec<usize> = (0..MAX_NODE_INSTANCES).collect();
+    graph_from(bit, &row(1, &places), 0)
 }
 
 /// Readings for [`children`] forward: every fourth instance has all bits, the
@@ -468,6 +480,8 @@ mod tests {
         assert_eq!(registers_in(Order::Rising), register_instances(1_024, 1));
         assert_eq!(nodes_in(Order::Rising), node_instances(256));
         assert_eq!(counts(&mixed_children(MOST_CHILDREN)), (256, 256));
+        assert_eq!(row_at(0), children(1, false));
+        assert_eq!(counts(&row_at(63)), (256, 256));
 
         let file = late_absence();
         let refusal = check(&file).unwrap_err();

@@ -20,6 +20,6 @@ pub mod tree;
 pub mod vectors;
 
 pub use checker::{address, check, Accepted, Summary};
-pub use isolation::{bits_above_silent, isolate, isolate_with_readings_file};
+pub use isolation::{bits_above_silent, isolate, isolate_with_readings_file, reached_words};
 pub use refusal::Refusal;
 pub use report::report;

@@ -254,7 +254,7 @@ struct Writer {
 const FEWEST: usize = 100;
 /// A small case of a refusal that has so many is left out.
 const ENOUGH: usize = 160;
-const SUCCESSES: usize = 900;
+const SUCCESSES: usize = 850;
 /// The most that an ordinary case may add to the file of vectors.
 const MOST_OF_A_CASE: usize = 900;
 
@@ -535,9 +535,9 @@ impl Writer {
         }
     }
 
-    /// Calls with answers written by hand.
-    fn hand_made_calls(&mut self) {
-        for call in cases::isolations() {
+    /// Calls whose answers do not come from the reference.
+    fn hand_made_calls(&mut self, calls: Vec<cases::Isolation>) {
+        for call in calls {
             self.store_isolation(&Case {
                 file: call.file,
                 attention_type: large::ATTENTION_TYPE,
@@ -620,7 +620,7 @@ impl Writer {
     }
 
     /// Files that go on over those stored behind them: too long, or with bytes
-    /// after the last root. Last, since the files are complete then.
+    /// after the last root. They need the files of the cases before.
     fn windows(&mut self) {
         let end = self.bytes.len();
         let early: Vec<usize> = self
@@ -696,12 +696,13 @@ pub fn build(seed: u64) -> Vec<u8> {
         room: 16,
     };
     writer.store_isolation(&b1);
-    writer.hand_made_calls();
+    writer.hand_made_calls(cases::isolations_of_files());
     writer.small_cases();
     writer.limits();
     writer.silent_children();
     writer.too_many_instances();
     writer.checks_and_addresses();
     writer.windows();
+    writer.hand_made_calls(cases::isolations_of_bits());
     writer.finish()
 }

@@ -220,7 +220,7 @@ fn hand_made_calls() {
         }
         assert!(names.insert(case.name));
     }
-    assert!(names.len() >= 90, "{}", names.len());
+    assert!(names.len() >= 400, "{}", names.len());
 }
 
 // The definition by chains, bit by bit and without marks.

@@ -1,6 +1,7 @@
 //! The largest files, and those one larger.
 
-use reference::{check, isolate, Refusal};
+use reference::large::{self, MOST_CHILDREN};
+use reference::{check, fast, isolate, Refusal};
 
 const START: &[u8] = b"CHIPDATA\x00\x00\x00\x01\x01";
 const REGISTERS: &[u8] = b"REGS\x00\x00\x01\x00\x00\x01\x01\x80\x01\x00\x00\x00\x10\x00";
@@ -149,4 +150,51 @@ fn the_longest_chain() {
     let answer = isolate(&file, 3, &[1 << 63], &[1], &mut list);
     assert_eq!(answer, Ok((1, 256)));
     assert_eq!(list, [3, 0, 1, 0, 0, 0, 0, 0, 7, 7, 7, 7, 7, 7, 7, 7]);
+}
+
+/// The isolation calls on 256 node instances that are measured. All of them
+/// reach all instances. Node 1 has 60 children in the mixed file too.
+#[test]
+fn calls_to_measure_with() {
+    // Each instance that is not among the last 60 has 60 children, and those
+    // have 59, 58 and so on: 11,760 and 1,770 of the 16,384 bits lead on.
+    let without_child = 16_384 - 11_760 - 1_770;
+    assert_eq!(without_child, 2_854);
+    // 64 instances have active bits. 49 of these have 15 children that have
+    // some, and the others have 14, 13 and so on to none: 735 and 105.
+    let above_silent = 64 * 64 - 735 - 105;
+    assert_eq!(above_silent, 3_256);
+
+    let row = large::children(1, false);
+    let forward = large::children(MOST_CHILDREN, false);
+    let backward = large::children(MOST_CHILDREN, true);
+    let mixed = large::mixed_children(MOST_CHILDREN);
+    let last_bit_row = large::row_at(63);
+    let bit_0 = vec![1 << 63; 256];
+    let bit_63 = vec![1; 256];
+    let all = vec![u64::MAX; 256];
+    let of_256 = |bit| [3, bit, 1, 0, 0, 0, 0, 0];
+    let of_1 = |bit| [3, bit, 0, 1, 0, 0, 0, 0];
+    for (file, words, records, first) in [
+        (&row, &bit_0, 1, of_256(0)),
+        (&last_bit_row, &bit_63, 1, of_256(63)),
+        (&last_bit_row, &all, 16_129, of_1(0)),
+        (&row, &all, 16_129, of_1(1)),
+        (&large::children(1, true), &bit_0, 1, of_1(0)),
+        (&forward, &bit_0, 1, of_256(0)),
+        (&forward, &all, without_child, of_1(60)),
+        (&backward, &all, without_child, of_1(0)),
+        (&mixed, &all, without_child, of_1(60)),
+        (&forward, &large::every_fourth(), above_silent, of_1(0)),
+    ] {
+        for isolate in [isolate, fast::isolate] {
+            let mut list = vec![7; 8 * records + 5];
+            let answer = isolate(file, 3, words, &[1; 256], &mut list);
+            assert_eq!(answer, Ok((records, 256)));
+            assert_eq!(list[..8], first);
+            assert_eq!(list[8 * records..], [7; 5]);
+            let answer = isolate(file, 3, words, &[1; 256], &mut list[..8 * records - 1]);
+            assert_eq!(answer, refused(19, records));
+        }
+    }
 }

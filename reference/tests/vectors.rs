@@ -55,6 +55,8 @@ fn vectors_agree_with_the_reference() {
         let mut outcomes = [0; 20];
         let mut unreadable_captures = BTreeMap::new();
         let mut above_silent = BTreeMap::new();
+        let mut only_listed = [0; 64];
+        let mut only_followed = [0; 64];
         let mut largest = 0;
         for vector in &vectors {
             assert_agrees(vector);
@@ -69,8 +71,22 @@ fn vectors_agree_with_the_reference() {
             if vector.bits_above_silent() > 0 {
                 *above_silent.entry(vector.expected[0]).or_insert(0) += 1;
             }
+            if let ([0, 0, 1, steps @ 1..=2, ..], [_, bit, 0, 1, 0, ..]) =
+                (vector.expected, vector.records)
+            {
+                let only = match steps {
+                    1 => &mut only_listed,
+                    _ => &mut only_followed,
+                };
+                only[usize::from(*bit)] += 1;
+            }
             largest = largest.max(vector.file.len());
         }
+        // Every bit as the only record, of node 1: in one step, so without a child,
+        // and in two, where the bit itself is listed and its child shows nothing.
+        let is_there = |&count: &usize| count > 0;
+        assert!(only_listed.iter().all(is_there), "{only_listed:?}");
+        assert!(only_followed.iter().all(is_there), "{only_followed:?}");
         assert!(outcomes.iter().all(|&count| count >= 40), "{outcomes:?}");
         for kind in [Kind::Check, Kind::Address, Kind::Isolation] {
             let captures = unreadable_captures.get(&kind);

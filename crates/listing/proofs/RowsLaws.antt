@@ -90,9 +90,6 @@ module _ (g : Graph) where
   pub count-more : (i b : ℕ) {c k : ℕ} → c ≡ length (bitsTo g i b) → k ≡ length (kept (listable g i) (b ∷ [])) → c + k ≡ length (bitsTo g i (b + 1))
   count-more i b e d = omega (arith, ap length (bits-more i b), length-append (bitsTo g i b) (kept (listable g i) (b ∷ [])))
 
-  pub bits-end : (i b n : ℕ) {c : ℕ} → c ≡ length (bitsTo g i b) → b ≡ n → c ≡ length (bitsTo g i n)
-  bits-end i b n e d = rw (← d) e
-
   pub bit-yes : (i b : ℕ) {t : Bool} → t ≡ listable g i b → t ≡ true → 1 ≡ length (kept (listable g i) (b ∷ []))
   unfolding kept
   bit-yes i b e d = rw (sym e ∙ d)

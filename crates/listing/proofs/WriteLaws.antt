@@ -79,10 +79,6 @@ module _ (g : Graph) (attention id number i : ℕ) where
   bits-wrote b x y h =
       rw (bits-more g i b, gathered-append (λ c. recordOf attention c id number) (bitsTo g i b) (kept (listable g i) (b ∷ []))) (wrote-more x y h)
 
-  pub bits-finished : (b n : ℕ) {old new : List ℕ} {at next : ℕ} → b ≡ n → Wrote old new at next (bitRecords attention id number (bitsTo g i b))
-      → Wrote old new at next (bitRecords attention id number (bitsTo g i n))
-  bits-finished b n e w = rw (← e) w
-
   -- While there is room for all 64 bits, there is room for the next.
   bits-mono : (b k : ℕ) → length (bitsTo g i b) ≤ length (bitsTo g i (b + k))
   bits-mono b zero = rw add-zero (omega arith)

@@ -1,8 +1,10 @@
 // The list: the listed bits are counted first, and their records written only where there is room for all.
 ghost use mathlib.Core.Path.{_≡_};
+ghost use mathlib.Core.Bool.{true};
 ghost use mathlib.Core.List.{[], _∷_, _++_};
 ghost use Prim.Native.Nat.{_+_, _*_, _<_, _≤_};
 ghost use lib.ListN.{length, getD, take, drop};
+ghost use Rattle.numbers.specs.Bits.{bitOf};
 ghost use Rattle.graph.specs.Chains.{listable, kept};
 ghost use Rattle.walk.specs.TableGraph.{tableSize, tableGraph};
 ghost use Rattle.listing.specs.Rows.{bitsTo, isDone, rowLinks, rowsTo, bitRecords, rowRecords, rowsRecords, Wrote, listingValues, listingFor, tableLinks, listAfter};
@@ -34,14 +36,11 @@ fn key_at(keys: &[u64], i: usize) -> u64
     keys[i]
 }
 
-// Whether bit b of the instance i is active and has no child, or one that shows nothing. A child shows nothing exactly where the word of its active bits is 0.
+// Whether the active bit b of the instance i has no child, or one that shows nothing. A child shows nothing exactly where the word of its active bits is 0.
 fn listable(active: &[u64], child: &[u16], n: usize, i: usize, b: u8) -> bool
-    requires { ⌜ (n ≡ tableSize (now active)) × (i < n) × (b < 64) ⌝ }
+    requires { ⌜ (n ≡ tableSize (now active)) × (i < n) × (b < 64) × (bitOf 64 (getD (now active) i 0) b ≡ true) ⌝ }
     ensures { λ r. ⌜ r ≡ listable (tableGraph (now (active .entry)) (now (child .entry))) i b ⌝ }
 {
-    if !numbers::bit(active[i], b) {
-        return false;
-    }
     let c = walk::child_at(n, child, i * 64 + b as usize);
     if n <= c {
         return true;
@@ -49,9 +48,9 @@ fn listable(active: &[u64], child: &[u16], n: usize, i: usize, b: u8) -> bool
     active[c] == 0
 }
 
-// 1 where bit b of the instance i is listable, otherwise 0.
+// 1 where the active bit b of the instance i is listable, otherwise 0.
 fn count_bit(active: &[u64], child: &[u16], n: usize, i: usize, b: u8) -> usize
-    requires { ⌜ (n ≡ tableSize (now active)) × (i < n) × (b < 64) ⌝ }
+    requires { ⌜ (n ≡ tableSize (now active)) × (i < n) × (b < 64) × (bitOf 64 (getD (now active) i 0) b ≡ true) ⌝ }
     ensures { λ r. ⌜ r ≡ length (kept (listable (tableGraph (now (active .entry)) (now (child .entry))) i) (b ∷ [])) ⌝ }
 {
     if listable(active, child, n, i, b) {
@@ -60,16 +59,17 @@ fn count_bit(active: &[u64], child: &[u16], n: usize, i: usize, b: u8) -> usize
     0
 }
 
-// How many bits of the instance i are listable. It looks at each of its 64 bits once.
+// How many bits of the instance i are listable. It looks at each of its active bits once, and at no other.
 fn count_bits(active: &[u64], child: &[u16], n: usize, i: usize) -> usize
     requires { ⌜ (n ≡ tableSize (now active)) × (i < n) ⌝ }
     ensures { λ r. ⌜ r ≡ length (bitsTo (tableGraph (now (active .entry)) (now (child .entry))) i 64) ⌝ }
 {
     let mut count = 0;
-    let mut b: u8 = 0;
-    while b < 64 {
+    let mut uncounted = active[i];
+    while uncounted != 0 {
+        let b = numbers::next_bit(uncounted);
         count += count_bit(active, child, n, i, b);
-        b += 1;
+        uncounted = numbers::without_next(uncounted);
     }
     count
 }
@@ -114,7 +114,7 @@ fn put_record(list: &mut [u8], at: usize, attention: u8, bit: u8, id: u16, numbe
     list[at + 7] = 0;
 }
 
-// The record of bit b of the instance i, if it is listable: the place after it.
+// The record of the active bit b of the instance i, if it is listable: the place after it.
 fn put_bit(
     list: &mut [u8],
     at: usize,
@@ -127,7 +127,7 @@ fn put_bit(
     i: usize,
     b: u8,
 ) -> usize
-    requires { ⌜ (n ≡ tableSize (now active)) × (i < n) × (b < 64) ⌝ }
+    requires { ⌜ (n ≡ tableSize (now active)) × (i < n) × (b < 64) × (bitOf 64 (getD (now active) i 0) b ≡ true) ⌝ }
     requires { ⌜ at + 8 * length (kept (listable (tableGraph (now active) (now child)) i) (b ∷ [])) ≤ length (now list) ⌝ }
     ensures { λ r. ⌜ Wrote (now (list .entry)) (now (list .exit)) at r (bitRecords attention id number (kept (listable (tableGraph (now (active .entry)) (now (child .entry))) i) (b ∷ []))) ⌝ }
 {
@@ -138,7 +138,7 @@ fn put_bit(
     at
 }
 
-// The records of the listable bits of the instance i: the place after them. It looks at each of its 64 bits once.
+// The records of the listable bits of the instance i: the place after them. It looks at each of its active bits once, and at no other.
 fn put_bits(
     list: &mut [u8],
     at: usize,
@@ -155,10 +155,11 @@ fn put_bits(
     ensures { λ r. ⌜ Wrote (now (list .entry)) (now (list .exit)) at r (bitRecords attention id number (bitsTo (tableGraph (now (active .entry)) (now (child .entry))) i 64)) ⌝ }
 {
     let mut place = at;
-    let mut b: u8 = 0;
-    while b < 64 {
+    let mut unwritten = active[i];
+    while unwritten != 0 {
+        let b = numbers::next_bit(unwritten);
         place = put_bit(list, place, attention, id, number, active, child, n, i, b);
-        b += 1;
+        unwritten = numbers::without_next(unwritten);
     }
     place
 }

@@ -9,6 +9,7 @@ use lib.Bits.{bitAnd, bitOr, and-block, or-block}
 use lib.Pow.{high, low, pow-add, shl-lt, shr-shr}
 use lib.Dec.{eqb, ltb, lit<}
 use Rattle.numbers.specs.Bits.{Bits, digit, wordOf, bitOf, notBits, andBits, orBits, leftBits, rightBits, notWord, andWord, orWord, leftWord, rightWord}
+use Rattle.numbers.proofs.Bools.{and-none}
 
 -- Words and their bits
 
@@ -41,7 +42,7 @@ unfolding wordOf
 word-split m zero f = rw add-zero (omega arith)
 word-split m (suc k) f = rw (add-suc, pow-suc, word-split m k f) (omega arith)
 
-word-zero : (w : ℕ) (f : Bits) → ((i : ℕ) → i < w → f i ≡ false) → wordOf w f ≡ 0
+pub word-zero : (w : ℕ) (f : Bits) → ((i : ℕ) → i < w → f i ≡ false) → wordOf w f ≡ 0
 unfolding wordOf
 word-zero zero f h = refl
 word-zero (suc w) f h = rw (h w (omega arith), word-zero w f (λ i l. h i (omega arith)))
@@ -97,11 +98,7 @@ word-bits (suc w) x h = rw (word-ext w (bitOf (suc w) x) (bitOf w (x / 2)) upper
 
 pub zero-bit : (w i : ℕ) → bitOf w 0 i ≡ false
 unfolding bitOf
-zero-bit w i = rw (zero-div (2 ^ (w - 1 - i))) (go (ltb i w))
-  where
-    go : (t : Bool) → t && false ≡ false
-    go true = refl
-    go false = refl
+zero-bit w i = rw (zero-div (2 ^ (w - 1 - i))) (and-none (ltb i w))
 
 pub word-none : (w x : ℕ) → x < 2 ^ w → ((i : ℕ) → i < w → bitOf w x i ≡ false) → x ≡ 0
 word-none w x h f = sym (word-bits w x h) ∙ word-zero w (bitOf w x) f

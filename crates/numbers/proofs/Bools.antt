@@ -21,6 +21,10 @@ pub and-right : (s t : Bool) → s && t ≡ true → t ≡ true
 and-right true t e = e
 and-right false t e = clash e refl
 
+pub and-none : (s : Bool) → s && false ≡ false
+and-none true = refl
+and-none false = refl
+
 pub and-both : {s t : Bool} → s ≡ true → t ≡ true → s && t ≡ true
 and-both p q = rw (p, q)
 

@@ -3,7 +3,8 @@ ghost use mathlib.Core.Path.{_≡_};
 ghost use Prim.Native.Nat.{_≤_};
 ghost use lib.ListN.{length};
 ghost use Rattle.numbers.specs.BigEndian.{bigEndian};
-ghost use Rattle.numbers.specs.Bits.{bitOf, notWord, andWord, orWord, leftWord, rightWord};
+ghost use Rattle.numbers.specs.Bits.{notWord, andWord, orWord, leftWord, rightWord};
+ghost use Rattle.numbers.specs.NextBit.{nextBit, withoutNext};
 ghost use Rattle.numbers.specs.Field.{sizeOf, numberValues, byteValues, numberAt};
 
 // How many bytes a number takes.
@@ -78,14 +79,22 @@ pub fn byte_at(s: &[u8], at: usize) -> ByteRead
     }
 }
 
-// Bit i of a word; a word has no bit above 63.
-pub fn bit(x: u64, i: u8) -> bool
-    ensures { λ r. ⌜ r ≡ bitOf 64 x i ⌝ }
+// The next bit of a word that has the bits not yet taken: the least of them, or 64 where none is left. Bit 0 is leftmost, so it is how many zeros the word begins with.
+pub fn next_bit(x: u64) -> u8
+    ensures { λ r. ⌜ r ≡ nextBit 64 x ⌝ }
 {
-    if i < 64 {
-        return (x >> (63 - i)) % 2 == 1;
+    u64::leading_zeros(x) as u8
+}
+
+// The word without its next bit. A word that has none stays as it is.
+pub fn without_next(x: u64) -> u64
+    ensures { λ r. ⌜ r ≡ withoutNext 64 x ⌝ }
+{
+    if x == 0 {
+        0
+    } else {
+        x ^ (0x8000_0000_0000_0000 >> next_bit(x))
     }
-    false
 }
 
 // Every bit inverted.

@@ -2,6 +2,7 @@
 pub mod First
 pub mod Step
 pub mod Tables
+pub mod TouchLaws
 pub mod WalkLaws
 pub mod StepsLaws
 pub mod RunLaws

@@ -1,4 +1,4 @@
--- What one look at a bit does to the marks, by cases, for the graph of two tables; and that this graph is sound.
+-- The graph of two tables: its size, the child of a place, and that it is sound.
 use mathlib.Core.Path.{_≡_, refl, sym, ap, _∙_}
 use mathlib.Core.Bool.{Bool, true, false, cond, _&&_}
 use mathlib.Core.List.{List}
@@ -6,16 +6,14 @@ use mathlib.Core.Logic.{_⊎_, ⊎-elim}
 use mathlib.Core.Option.{Option, none, some}
 use Prim.Native.Nat.{ℕ, _+_, _*_, _≤_, _<_}
 use native.Mathlib.Omega.{arith}
-use native.Mathlib.Numerals.{add-one}
 use lib.Dec.{ltb}
-use lib.ListN.{length, getD, set}
-use borrow.Author.Tests.{eq-eqb, ne-eqb, lt-ltb, le-ltb, ltb-true, ltb-false}
-use Rattle.numbers.specs.Bits.{bitOf}
+use lib.ListN.{length, getD}
+use borrow.Author.Tests.{lt-ltb, le-ltb, ltb-true, ltb-false}
 use Rattle.numbers.proofs.BitsLaws.{bit-out}
 use Rattle.numbers.proofs.Bools.{either, clash, and-left, and-right}
-use Rattle.graph.specs.Chains.{Graph, Sound}
+use Rattle.graph.specs.Chains.{Sound}
 use Rattle.walk.specs.TableGraph.{tableSize, childAt, tableGraph}
-use Rattle.walk.specs.Fold.{orElse, touched, touchedTo}
+use Rattle.walk.specs.Fold.{orElse}
 
 pub size-few : (act : List ℕ) → (tableSize act ≤ 256) × (tableSize act ≤ length act)
 unfolding tableSize
@@ -68,41 +66,6 @@ module _ (act ch : List ℕ) (n k : ℕ) (size : n ≡ tableSize act) {c : ℕ} 
 
   pub found-some : c < n → childAt (tableSize act) ch k ≡ some c
   found-some l = ap (λ x. childAt x ch k) (sym size) ∙ or-else-some _ found l
-
--- One look at bit b of k.
-module _ (act ch m : List ℕ) (n k b : ℕ) (size : n ≡ tableSize act) (kn : k < n) (b64 : b < 64) where
-  k-in : ltb k (tableSize act) ≡ true
-  k-in = rw (← size) (lt-ltb k n kn)
-
-  pub idle : bitOf 64 (getD act k 0) b ≡ false → m ≡ touched (tableGraph act ch) m k b
-  unfolding touched tableGraph
-  idle e = simp (k-in, e)
-
-  module _ (on : bitOf 64 (getD act k 0) b ≡ true) {c : ℕ} (found : c ≡ orElse n (childAt n ch (k * 64 + b))) where
-    pub outside : n ≤ c → m ≡ touched (tableGraph act ch) m k b
-    unfolding touched tableGraph
-    outside l = simp (k-in, on, lt-ltb b 64 b64, found-none act ch n (k * 64 + b) size found l)
-
-    module _ (l : c < n) where
-      there : childAt (tableSize act) ch (k * 64 + b) ≡ some c
-      there = found-some act ch n (k * 64 + b) size found l
-
-      pub known : (getD m c 0 ≡ 0 → ⊥) → m ≡ touched (tableGraph act ch) m k b
-      unfolding touched tableGraph
-      known z = simp (k-in, on, lt-ltb b 64 b64, there, ne-eqb _ 0 z)
-
-      pub fresh : getD m c 0 ≡ 0 → set m c 1 ≡ touched (tableGraph act ch) m k b
-      unfolding touched tableGraph
-      fresh z = simp (k-in, on, lt-ltb b 64 b64, there, eq-eqb _ 0 z)
-
--- One turn of the loop over the bits.
-pub touched-more : (g : Graph) (m₀ : List ℕ) {m m′ : List ℕ} (k n : ℕ) → m′ ≡ touched g m k n → m ≡ touchedTo g m₀ k n → m′ ≡ touchedTo g m₀ k (n + 1)
-unfolding touchedTo
-touched-more g m₀ k n e d = rw (add-one n, ← d) e
-
-pub touched-none : (g : Graph) (m : List ℕ) (k : ℕ) → touchedTo g m k 0 ≡ m
-unfolding touchedTo
-touched-none g m k = refl
 
 -- The graph of two tables is sound.
 pub table-sound : (act ch : List ℕ) → Sound (tableGraph act ch)

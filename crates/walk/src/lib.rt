@@ -1,12 +1,12 @@
 // The walk over a graph of node instances that two lent tables give: a word of active bits for each instance, and 64 places for the children of each.
 ghost use mathlib.Core.Path.{_≡_};
-ghost use Prim.Native.Nat.{_+_, _*_, _<_};
+ghost use Prim.Native.Nat.{_≤_, _<_};
 ghost use lib.Dec.{ltb};
 ghost use lib.ListN.{length};
 ghost use Rattle.walk.specs.TableGraph.{tableSize, childAt, tableGraph};
 ghost use Rattle.walk.specs.Marks.{firstWaiting, stepWalk, started, finished};
 ghost use Rattle.walk.specs.Steps.{StepCount};
-ghost use Rattle.walk.specs.Fold.{orElse, touched, touchedTo};
+ghost use Rattle.walk.specs.Fold.{orElse, touchChild, touchedTo};
 
 // The walk's state: a mark for each of 256 node instances: 0 untouched, 1 waiting, 2 done.
 pub struct Walk {
@@ -55,15 +55,12 @@ pub fn child_at(n: usize, child: &[u16], k: usize) -> usize
     c
 }
 
-// The child of bit b of the instance k, if there is one and it is untouched, waits.
-fn touch(m: &mut [u8], active: &[u64], child: &[u16], n: usize, k: usize, b: u8)
-    requires { ⌜ (n ≡ tableSize (now active)) × (length (now m) ≡ 256) × (k < n) × (b < 64) ⌝ }
-    ensures { λ r. ⌜ now (m .exit) ≡ touched (tableGraph (now (active .entry)) (now (child .entry))) (now (m .entry)) k b ⌝ }
+// The child at a place of the table, if there is one and it is untouched, waits.
+fn touch(m: &mut [u8], child: &[u16], n: usize, k: usize)
+    requires { ⌜ (n ≤ 256) × (length (now m) ≡ 256) ⌝ }
+    ensures { λ r. ⌜ now (m .exit) ≡ touchChild (now (m .entry)) (childAt n (now (child .entry)) k) ⌝ }
 {
-    if !numbers::bit(active[k], b) {
-        return;
-    }
-    let c = child_at(n, child, k * 64 + b as usize);
+    let c = child_at(n, child, k);
     if n <= c {
         return;
     }
@@ -73,15 +70,16 @@ fn touch(m: &mut [u8], active: &[u64], child: &[u16], n: usize, k: usize, b: u8)
     m[c] = 1;
 }
 
-// The untouched children of the instance k wait. It looks at each of its 64 bits once.
+// The untouched children of the instance k wait. It looks at each of its active bits once, and at no other.
 fn touch_all(m: &mut [u8], active: &[u64], child: &[u16], n: usize, k: usize)
     requires { ⌜ (n ≡ tableSize (now active)) × (length (now m) ≡ 256) × (k < n) ⌝ }
     ensures { λ r. ⌜ now (m .exit) ≡ touchedTo (tableGraph (now (active .entry)) (now (child .entry))) (now (m .entry)) k 64 ⌝ }
 {
-    let mut b: u8 = 0;
-    while b < 64 {
-        touch(m, active, child, n, k, b);
-        b += 1;
+    let mut rest = active[k];
+    while rest != 0 {
+        let b = numbers::next_bit(rest);
+        touch(m, child, n, k * 64 + b as usize);
+        rest = numbers::without_next(rest);
     }
 }
 

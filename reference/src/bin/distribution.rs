@@ -6,9 +6,54 @@ use std::env;
 use std::process::ExitCode;
 
 use reference::generate::{self, Random};
-use reference::{bits_above_silent, isolate, refusal};
+use reference::{bits_above_silent, isolate, reached_words, refusal};
 
 const HIGHEST_NUMBER: usize = 19;
+
+/// Kinds of words: the active bits of a reached instance.
+const KINDS: [&str; 8] = [
+    "none",
+    "bit-0",
+    "bit-63",
+    "other-bit",
+    "2-to-15",
+    "16-to-47",
+    "48-to-63",
+    "all",
+];
+
+fn kind_of(word: u64) -> usize {
+    match (word.count_ones(), word) {
+        (0, _) => 0,
+        (1, 0x8000_0000_0000_0000) => 1,
+        (1, 1) => 2,
+        (1, _) => 3,
+        (2..=15, _) => 4,
+        (16..=47, _) => 5,
+        (48..=63, _) => 6,
+        _ => 7,
+    }
+}
+
+/// How many words are of each kind, and how many cases have one of it.
+#[derive(Default)]
+struct Words {
+    of_kind: [u64; KINDS.len()],
+    cases: [u64; KINDS.len()],
+}
+
+impl Words {
+    fn add(&mut self, words: &[u64]) {
+        let mut seen = [0; KINDS.len()];
+        for &word in words {
+            seen[kind_of(word)] += 1;
+        }
+        for (kind, count) in seen.into_iter().enumerate() {
+            self.of_kind[kind] += count;
+            self.cases[kind] += u64::from(count > 0);
+        }
+    }
+}
 
 fn main() -> ExitCode {
     let numbers: Option<Vec<u64>> = env::args().skip(1).map(|text| text.parse().ok()).collect();
@@ -27,6 +72,7 @@ fn main() -> ExitCode {
     let mut with_records = 0u64;
     let mut above_silent = [0u64; HIGHEST_NUMBER + 1];
     let mut refused = [0u64; HIGHEST_NUMBER + 1];
+    let mut reached = Words::default();
     for _ in 0..cases {
         let case = generate::case(&mut random);
         let mut list = vec![0; case.room];
@@ -40,6 +86,8 @@ fn main() -> ExitCode {
         let number = answer.map_or_else(|refusal| usize::from(refusal.number), |_| 0);
         let bits = bits_above_silent(&case.file, case.attention_type, &case.words, &case.read);
         above_silent[number] += u64::from(bits > 0);
+        let words = reached_words(&case.file, case.attention_type, &case.words, &case.read);
+        reached.add(&words);
         match answer {
             Ok((records, _)) => {
                 isolated += 1;
@@ -58,6 +106,16 @@ fn main() -> ExitCode {
         above_silent[0],
         above_silent[usize::from(refusal::NO_ROOM)]
     );
+    for (name, counts) in [
+        ("reached-words", reached.of_kind),
+        ("cases-with", reached.cases),
+    ] {
+        print!("{name}");
+        for (kind, count) in KINDS.iter().zip(counts) {
+            print!(" {kind} {count}");
+        }
+        println!();
+    }
     for (number, count) in refused.iter().enumerate().skip(1) {
         println!("refused-{number} {count}");
     }

@@ -719,7 +719,7 @@ impl ExpressionWriter<'_> {
             let constant = match self.random.below(4) {
                 0 => 0,
                 1 => u64::MAX,
-                2 => 1 << self.random.below(64),
+                2 => 1 << self.random.bit(),
                 _ => self.random.next(),
             };
             self.put_constant(constant);

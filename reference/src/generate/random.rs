@@ -69,10 +69,30 @@ impl Random {
         bytes
     }
 
-    /// So many different bits, in any order. At most 64.
+    /// A bit's number: a little more than a third of the time the first or the
+    /// last.
+    pub fn bit(&mut self) -> u8 {
+        match self.below(96) {
+            bit @ 0..64 => bit as u8,
+            64..80 => 0,
+            _ => 63,
+        }
+    }
+
+    /// So many different bits, in any order; more than a third of the time the
+    /// first or the last is among them. At most 64.
     pub fn different_bits(&mut self, count: usize) -> Vec<u8> {
         let mut bits: Vec<u8> = (0..64).collect();
         self.draw(&mut bits, count);
+        if count > 0 {
+            let bit = self.bit();
+            let there = bits.iter().position(|&other| other == bit);
+            let place = self.below(count);
+            match there {
+                Some(there) if there >= count => bits.swap(there, place),
+                _ => {}
+            }
+        }
         bits.truncate(count);
         bits
     }

@@ -289,11 +289,13 @@ fn main() {
     let captures = large::captures(0);
     let deep = large::deep_expressions();
     let row = large::children(1, false);
+    let last_bit_row = large::row_at(63);
     let backward_row = large::children(1, true);
     let forward = large::children(large::MOST_CHILDREN, false);
     let backward = large::children(large::MOST_CHILDREN, true);
     let mixed = large::mixed_children(large::MOST_CHILDREN);
     let top_bit = [1u64 << 63; 1_024];
+    let last_bit = [1u64; 256];
     let all_bits = [u64::MAX; 1_024];
     let every_fourth = large::every_fourth();
     let read = [1u8; 1_024];
@@ -312,6 +314,12 @@ fn main() {
             &read[..256],
         ),
         isolate(
+            "a 256-instance file, a row at bit 63, one record",
+            &last_bit_row,
+            &last_bit,
+            &read[..256],
+        ),
+        isolate(
             "a 256-instance file, a row, 16,129 records",
             &row,
             &all_bits[..256],
@@ -321,6 +329,18 @@ fn main() {
             "a 256-instance file, a row backward, one record",
             &backward_row,
             &top_bit[..256],
+            &read[..256],
+        ),
+        isolate(
+            "a 256-instance file, 60 children each, one bit each",
+            &forward,
+            &top_bit[..256],
+            &read[..256],
+        ),
+        isolate(
+            "a 256-instance file, 60 children each, forward",
+            &forward,
+            &all_bits[..256],
             &read[..256],
         ),
         isolate(
