@@ -3,13 +3,13 @@ use Prim.Native.Nat.{ℕ, zero, suc, _+_, _-_, _*_, _/_, _^_, _≤_, _<_}
 use mathlib.Core.Bool.{Bool, true, false, cond, not, _&&_}
 use mathlib.Core.Logic.{⊎-elim}
 use mathlib.Core.Path.{_≡_, refl, sym, _∙_, ap}
-use native.Mathlib.Nat.{pow-suc, one-le-pow, zero-add, div-eq-of-lt}
+use native.Mathlib.Nat.{pow-suc, zero-add, div-eq-of-lt}
 use native.Mathlib.Omega.{arith}
 use borrow.Author.Tests.{eq-eqb, ne-eqb, ltb-true, ltb-false}
 use lib.Bits.{bitAnd, bitXor, xor-add-and}
 use lib.Count.{ones, onesIn, ones-cat, leadingZeros, leading-of-zero, leading-top}
-use lib.Pow.{high, pow-add, pow-mono}
-use lib.Dec.{eqb, ltb, lit<}
+use lib.Pow.{high, pow-add, pow-mono, shl-shr}
+use lib.Dec.{eqb, ltb}
 use Rattle.numbers.specs.Bits.{Bits, digit, wordOf, bitOf, andBits, andWord}
 use Rattle.numbers.specs.NextBit.{leastBit, otherBits, nextBit, withoutNext, Least}
 use Rattle.numbers.proofs.BitsLaws.{word-lt, word-ext, word-zero, bit-word, bit-in, word-bits, zero-bit, word-none, and-machine}
@@ -78,7 +78,7 @@ next-machine w x h = least-one (go x h) (next-law w x)
 -- The word without its next bit
 
 shifted : (j k n : ℕ) → j + k ≡ n → 2 ^ n / 2 ^ k ≡ 2 ^ j
-shifted j k n e = let s : 2 ^ n ≡ 2 ^ j * 2 ^ k + 0 = rw (← e, pow-add) (omega arith) in rw s (high (2 ^ j) k (one-le-pow k 2 (lit< tt)))
+shifted j k n e = rw (← e, pow-add) (shl-shr (2 ^ j) k)
 
 -- The word without bit k, and that bit.
 without-sum : (w k : ℕ) (f : Bits) → k < w → f k ≡ true → wordOf w (otherBits k f) + 2 ^ (w - 1 - k) ≡ wordOf w f
