@@ -5,16 +5,20 @@
 
 mod aimed;
 mod captures;
+mod colliding;
 mod damage;
 mod draft;
 mod misfit;
+mod places;
 mod random;
 mod silent;
 
 pub use aimed::{aimed_case, full_list_case, large_case, Sizes, HIGHEST_NUMBER};
+pub use colliding::{case_of, colliding_case, colliding_file, crowds, name_like};
 pub use damage::damaged_file;
 pub use draft::{valid_file, Field, FieldKind, FieldMap, Shape};
 pub use misfit::{Misfit, MISFITS};
+pub use places::{Crowd, Places};
 pub use random::Random;
 
 use crate::isolation;

@@ -1,7 +1,9 @@
 //! Files at the limits, one beyond them, and files to measure with. They are the
 //! same each time.
 
-use crate::generate::Random;
+use std::ops::Range;
+
+use crate::generate::{Places, Random};
 use crate::layout::{
     EXPRESSION_AND, EXPRESSION_NOT, EXPRESSION_OR, EXPRESSION_REGISTER, EXPRESSION_SHIFT_LEFT,
     EXPRESSION_SHIFT_RIGHT, MAX_EXPRESSION_LEVEL, MAX_FILE_BYTES, MAX_NODE_INSTANCES,
@@ -53,7 +55,16 @@ pub enum Order {
     Rising,
     Falling,
     Shuffled,
+    /// Down and up in turn: 2 1 4 3.
+    Alternating,
 }
+
+pub const ORDERS: [Order; 4] = [
+    Order::Rising,
+    Order::Falling,
+    Order::Shuffled,
+    Order::Alternating,
+];
 
 impl Order {
     fn ids(self, count: usize) -> Vec<u32> {
@@ -67,9 +78,19 @@ impl Order {
                     ids.swap(left, random.below(left + 1));
                 }
             }
+            Order::Alternating => {
+                let pairs = ids.chunks_exact_mut(2);
+                pairs.for_each(|pair| pair.swap(0, 1));
+            }
         }
         ids
     }
+}
+
+/// The name of the instance 0 of a register.
+fn name_of(id: u32) -> [u8; 4] {
+    let [_, a, b, c] = id.to_be_bytes();
+    [a, b, c, 0]
 }
 
 /// What a node instance has beside its number, 0. Names of captured registers,
@@ -163,19 +184,24 @@ pub fn node_instances(instances: usize) -> Vec<u8> {
 /// 1,024 register instances in turn.
 pub fn captures(more: usize) -> Vec<u8> {
     let file = start(MAX_REGISTER_INSTANCES, 128);
-    full_of_captures(file, MAX_REGISTER_INSTANCES, MAX_FILE_BYTES + more)
+    let name = |position| register_name(position, 128);
+    full_of_captures(file, MAX_REGISTER_INSTANCES, name, MAX_FILE_BYTES + more)
 }
 
 /// A file of so many bytes that begins with these registers, with as many
 /// captures as it holds, of the first `captured` register instances in turn.
-fn full_of_captures(file: Vec<u8>, captured: usize, bytes: usize) -> Vec<u8> {
-    let mut nodes = Nodes::plain(MAX_NODE_INSTANCES, |position| register_name(position, 128));
+fn full_of_captures(
+    file: Vec<u8>,
+    captured: usize,
+    name: impl Fn(usize) -> [u8; 4],
+    bytes: usize,
+) -> Vec<u8> {
+    let mut nodes = Nodes::plain(MAX_NODE_INSTANCES, &name);
     let room = bytes - file.len() - 6 - ROOTS.len() - nodes.bytes();
     for capture in 0..room / 4 {
-        let register = register_name(capture * 7 % captured, 128);
         nodes.instances[capture % MAX_NODE_INSTANCES]
             .captures
-            .push(register);
+            .push(name(capture * 7 % captured));
     }
     for _ in 0..room % 4 {
         nodes.instances[0].rule.insert(0, EXPRESSION_NOT);
@@ -296,20 +322,26 @@ pub fn late_cycle() -> Vec<u8> {
 /// 1,024 registers of one instance, their IDs in this order; the one rule names
 /// the last of them.
 pub fn registers_in(order: Order) -> Vec<u8> {
-    let ids = order.ids(MAX_REGISTER_INSTANCES);
-    let [_, a, b, c] = ids[MAX_REGISTER_INSTANCES - 1].to_be_bytes();
-    Nodes::plain(1, |_| [a, b, c, 0]).write(start_with(&ids, ids.len(), 1))
+    registers_with(&order.ids(MAX_REGISTER_INSTANCES))
+}
+
+/// Registers of one instance with these IDs; the one rule names the last of
+/// them.
+fn registers_with(ids: &[u32]) -> Vec<u8> {
+    let last = name_of(ids[ids.len() - 1]);
+    Nodes::plain(1, |_| last).write(start_with(ids, ids.len(), 1))
 }
 
 /// 256 nodes of one instance, and as many registers, their IDs in this order.
 pub fn nodes_in(order: Order) -> Vec<u8> {
-    let ids = order.ids(MAX_NODE_INSTANCES);
-    let rule = |position: usize| {
-        let [_, a, b, c] = ids[position].to_be_bytes();
-        [a, b, c, 0]
-    };
-    let file = start_with(&ids, ids.len(), 1);
-    Nodes::plain(ids.len(), rule).write_with(&ids, 0, file)
+    nodes_with(&order.ids(MAX_NODE_INSTANCES))
+}
+
+/// Nodes of one instance, and as many registers, with these IDs.
+fn nodes_with(ids: &[u32]) -> Vec<u8> {
+    let rule = |position: usize| name_of(ids[position]);
+    let file = start_with(ids, ids.len(), 1);
+    Nodes::plain(ids.len(), rule).write_with(ids, 0, file)
 }
 
 /// [`registers_in`] whose last register has the ID of the one before it.
@@ -323,6 +355,110 @@ pub fn late_duplicate(order: Order) -> Vec<u8> {
 /// Where a register stands if all have one instance.
 fn file_position_of_register(position: usize) -> usize {
     20 + 11 * position
+}
+
+/// As many children forward as the file holds, and the last of them is absent.
+pub fn late_absent_child() -> Vec<u8> {
+    let mut file = children(MOST_CHILDREN, false);
+    // Behind the child entry: the last node of 14 bytes, and the root.
+    let behind = file.len() - ROOTS.len() - 14;
+    file[behind - 3..behind].copy_from_slice(&[1, 1, 0]);
+    file
+}
+
+/// Where IDs or names of instances start in a table that is searched by number.
+#[derive(Clone, Copy, Debug, PartialEq, Eq)]
+pub enum Crowding {
+    /// Those of the IDs from 1 up, which are spread.
+    None,
+    /// 64 at each of some places that are far from each other.
+    By64,
+    /// All at the last four.
+    AtTheEnd,
+}
+
+impl Crowding {
+    /// So many IDs that rise, by the numbers that are searched for.
+    fn ids(self, count: usize, places: Places, number: impl Fn(u64) -> u64) -> Vec<u32> {
+        let starts = places.starts();
+        let at = |wanted: Range<usize>, count: usize| -> Vec<u32> {
+            let is_there = |id: &u32| wanted.contains(&places.start(number((*id).into())));
+            (1..).filter(is_there).take(count).collect()
+        };
+        let mut ids: Vec<u32> = match self {
+            Crowding::None => (1..=count as u32).collect(),
+            Crowding::By64 => {
+                let groups = count / 64;
+                let start = |group| group * starts / groups;
+                let group = |group| at(start(group)..start(group) + 1, 64);
+                (0..groups).flat_map(group).collect()
+            }
+            Crowding::AtTheEnd => at(starts - 4..starts, count),
+        };
+        ids.sort();
+        ids
+    }
+
+    /// IDs of 1,024 registers whose instances 0 are crowded by their names.
+    fn register_names(self) -> Vec<u32> {
+        self.ids(MAX_REGISTER_INSTANCES, Places::OF_REGISTERS, |id| id << 8)
+    }
+
+    /// The same of 256 nodes.
+    fn node_names(self) -> Vec<u32> {
+        self.ids(MAX_NODE_INSTANCES, Places::OF_NODES, |id| id << 8)
+    }
+}
+
+/// 1,024 registers of one instance, their IDs falling and crowded.
+pub fn crowded_registers(crowding: Crowding) -> Vec<u8> {
+    let mut ids = crowding.ids(MAX_REGISTER_INSTANCES, Places::OF_REGISTERS, |id| id);
+    ids.reverse();
+    registers_with(&ids)
+}
+
+/// 256 nodes of one instance, and as many registers, their IDs falling and
+/// crowded as those of nodes.
+pub fn crowded_nodes(crowding: Crowding) -> Vec<u8> {
+    let mut ids = crowding.ids(MAX_NODE_INSTANCES, Places::OF_NODES, |id| id);
+    ids.reverse();
+    nodes_with(&ids)
+}
+
+/// A file of 65,536 bytes, with as many captures as it holds, of 1,024 registers
+/// of one instance in turn, whose names are crowded.
+pub fn crowded_captures(crowding: Crowding) -> Vec<u8> {
+    let ids = crowding.register_names();
+    let file = start_with(&ids, ids.len(), 1);
+    full_of_captures(
+        file,
+        ids.len(),
+        |position| name_of(ids[position]),
+        MAX_FILE_BYTES,
+    )
+}
+
+/// [`crowded_captures`] whose last capture is of a register that is absent. The
+/// search for its name starts where that for the last register's does.
+pub fn late_crowded_absence(crowding: Crowding) -> Vec<u8> {
+    let ids = crowding.register_names();
+    let start = |id: u32| Places::OF_REGISTERS.start(u64::from(id) << 8);
+    let last = ids[ids.len() - 1];
+    let absent = (last + 1..).find(|&id| start(id) == start(last));
+    let mut file = crowded_captures(crowding);
+    capture_last(&mut file, name_of(absent.expect("there are more")));
+    file
+}
+
+/// As [`children`] forward with [`MOST_CHILDREN`], of 256 nodes whose instances'
+/// names are crowded.
+pub fn crowded_children(crowding: Crowding) -> Vec<u8> {
+    let places: Vec<usize> = (0..MAX_NODE_INSTANCES).collect();
+    let mut nodes = Nodes::plain(places.len(), |position| register_name(position, 1));
+    for (instance, children) in nodes.instances.iter_mut().zip(row(MOST_CHILDREN, &places)) {
+        instance.children = (0..).zip(children).collect();
+    }
+    nodes.write_with(&crowding.node_names(), 0, start(places.len(), 1))
 }
 
 /// [`captures`] of 65,536 bytes whose last node instance captures, as its last,
@@ -340,7 +476,8 @@ pub fn late_write_only() -> Vec<u8> {
     let mut file = start(others, 128);
     file[REGISTER_COUNT_AT..REGISTER_COUNT_AT + 3].copy_from_slice(&[0, 0, 9]);
     file.extend([0, 0, 9, 1, WRITABLE, 1, 0, 0, 0, 8, 0]);
-    let mut file = full_of_captures(file, others, MAX_FILE_BYTES);
+    let name = |position| register_name(position, 128);
+    let mut file = full_of_captures(file, others, name, MAX_FILE_BYTES);
     capture_last(&mut file, [0, 0, 9, 0]);
     file
 }
@@ -359,13 +496,19 @@ fn capture_last(file: &mut [u8], name: [u8; 4]) {
 /// over its four registers, the next four instances as children, and captures
 /// in the rest of its bytes.
 pub fn of_size(bytes: usize) -> Vec<u8> {
+    of_size_in(Order::Rising, bytes)
+}
+
+/// The same with the IDs of registers and of nodes in this order.
+pub fn of_size_in(order: Order, bytes: usize) -> Vec<u8> {
     let instances = (bytes / 256).clamp(1, MAX_NODE_INSTANCES);
     let registers = 4 * instances;
-    let file = start(registers, 1);
-    let mut nodes = Nodes::plain(instances, |position| register_name(position, 1));
+    let ids = order.ids(registers);
+    let file = start_with(&ids, registers, 1);
+    let mut nodes = Nodes::plain(instances, |position| name_of(ids[position]));
     for (position, instance) in nodes.instances.iter_mut().enumerate() {
         let register = |index: usize| {
-            let [a, b, c, number] = register_name(4 * position + index, 1);
+            let [a, b, c, number] = name_of(ids[4 * position + index]);
             [EXPRESSION_REGISTER, a, b, c, number]
         };
         // r0 | (r1 & ~r2) | r3 >> 1
@@ -383,10 +526,10 @@ pub fn of_size(bytes: usize) -> Vec<u8> {
     }
     let other = file.len() + 6 + nodes.bytes() + ROOTS.len();
     for capture in 0..bytes.saturating_sub(other) / 4 {
-        let register = register_name(capture * 7 % registers, 1);
+        let register = name_of(ids[capture * 7 % registers]);
         nodes.instances[capture % instances].captures.push(register);
     }
-    nodes.write(file)
+    nodes.write_with(&order.ids(instances), 0, file)
 }
 
 /// A file whose counts of one byte are as high as they may be: a register and a
@@ -470,7 +613,7 @@ mod tests {
 
     #[test]
     fn files_to_measure_with() {
-        for order in [Order::Rising, Order::Falling, Order::Shuffled] {
+        for order in ORDERS {
             assert_eq!(counts(&registers_in(order)), (1_024, 1));
             assert_eq!(counts(&nodes_in(order)), (256, 256));
             let place = file_position_of_register(1_023);
@@ -495,6 +638,9 @@ mod tests {
         assert_eq!(counts(&file), (1_024, 256));
         file[place + 2..place + 4].copy_from_slice(&[9, 1]);
         assert_eq!(check(&file).unwrap_err(), Refusal::new(12, place));
+        let file = late_absent_child();
+        let refusal = check(&file).unwrap_err();
+        assert_eq!(refusal, Refusal::new(12, file.len() - 9 - 14 - 4));
         let file = late_cycle();
         let refusal = check(&file).unwrap_err();
         assert_eq!(refusal.number, 14);
@@ -517,6 +663,60 @@ mod tests {
             // last four.
             assert_eq!(answer, Ok((instances + 10, instances)));
         }
+    }
+
+    #[test]
+    fn sizes_in_other_orders() {
+        for order in ORDERS {
+            let file = of_size_in(order, 8_192);
+            assert_eq!(counts(&file), (128, 32));
+            assert_eq!(file.len(), of_size(8_192).len());
+        }
+        assert_eq!(Order::Alternating.ids(5), [2, 1, 4, 3, 5]);
+    }
+
+    #[test]
+    fn names_are_crowded() {
+        let registers = Places::OF_REGISTERS;
+        let nodes = Places::OF_NODES;
+        for crowding in [Crowding::By64, Crowding::AtTheEnd] {
+            let numbers = |ids: Vec<u32>, bits: usize| -> Vec<u64> {
+                ids.iter().map(|&id| u64::from(id) << bits).collect()
+            };
+            for (crowd, count) in [
+                (
+                    registers.crowd(&numbers(crowding.ids(1_024, registers, |id| id), 0)),
+                    1_024,
+                ),
+                (
+                    registers.crowd(&numbers(crowding.register_names(), 8)),
+                    1_024,
+                ),
+                (
+                    nodes.crowd(&numbers(crowding.ids(256, nodes, |id| id), 0)),
+                    256,
+                ),
+                (nodes.crowd(&numbers(crowding.node_names(), 8)), 256),
+            ] {
+                match crowding {
+                    Crowding::AtTheEnd => assert_eq!(crowd.without_place, count - 36),
+                    _ => assert_eq!((crowd.most_at_one_start, crowd.without_place), (64, 0)),
+                }
+            }
+        }
+        for crowding in [Crowding::None, Crowding::By64, Crowding::AtTheEnd] {
+            assert_eq!(counts(&crowded_registers(crowding)), (1_024, 1));
+            assert_eq!(counts(&crowded_nodes(crowding)), (256, 256));
+            assert_eq!(counts(&crowded_captures(crowding)), (1_024, 256));
+            assert_eq!(crowded_captures(crowding).len(), 65_536);
+            assert_eq!(counts(&crowded_children(crowding)), (256, 256));
+            let refusal = check(&late_crowded_absence(crowding)).unwrap_err();
+            assert_eq!(refusal, Refusal::new(12, 65_536 - 19));
+        }
+        let forward = children(MOST_CHILDREN, false);
+        assert_eq!(crowded_children(Crowding::None), forward);
+        let falling = registers_in(Order::Falling);
+        assert_eq!(crowded_registers(Crowding::None), falling);
     }
 
     #[test]

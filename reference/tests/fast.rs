@@ -1,7 +1,7 @@
 //! The fast implementation agrees with the reference.
 
 use reference::generate::{self, Case, Random, Shape, Sizes, HIGHEST_NUMBER};
-use reference::large::Order;
+use reference::large::{Crowding, ORDERS};
 use reference::{address, cases, check, fast, isolate, large, report, Accepted};
 
 fn compare_isolation(case: &Case) -> u8 {
@@ -234,7 +234,7 @@ fn graphs() {
 #[test]
 fn orders_of_ids() {
     let mut random = Random::new(46);
-    for order in [Order::Rising, Order::Falling, Order::Shuffled] {
+    for order in ORDERS {
         for file in [
             large::registers_in(order),
             large::nodes_in(order),
@@ -261,9 +261,43 @@ fn orders_of_ids() {
         large::mixed_children(large::MOST_CHILDREN),
         large::late_cycle(),
         large::late_absence(),
+        large::late_absent_child(),
         large::late_write_only(),
         large::of_size(65_536),
     ] {
         assert_eq!(fast::check(&file), check(&file));
+    }
+}
+
+/// IDs and names that collide in a table that is searched by number.
+#[test]
+fn colliding_cases() {
+    let mut random = Random::new(48);
+    for _ in 0..6_000 {
+        let case = generate::colliding_case(&mut random);
+        assert_eq!(fast::check(&case.file), check(&case.file));
+        compare_isolation(&case);
+        compare_report(&mut random, &case);
+        let Ok(accepted) = Accepted::read(&case.file) else {
+            continue;
+        };
+        let register = random.pick(&accepted.tree.register_instances);
+        let id = accepted.tree.registers[register.register].id;
+        let near = generate::name_like(&mut random, id, register.number);
+        for (id, instance) in [(id, register.number), near] {
+            let expected = address(&case.file, id, instance);
+            assert_eq!(fast::address(&case.file, id, instance), expected);
+        }
+    }
+    for crowding in [Crowding::None, Crowding::By64, Crowding::AtTheEnd] {
+        for file in [
+            large::crowded_registers(crowding),
+            large::crowded_nodes(crowding),
+            large::crowded_captures(crowding),
+            large::late_crowded_absence(crowding),
+            large::crowded_children(crowding),
+        ] {
+            assert_eq!(fast::check(&file), check(&file));
+        }
     }
 }

@@ -9,7 +9,7 @@ use numbers::not_word;
 use numbers::or_word;
 use numbers::right_word;
 use tables::entry;
-use tables::name_position;
+use tables::positions::find_name;
 ghost use Prim.Native.Nat.{ℕ};
 ghost use mathlib.Core.Path.{_≡_};
 ghost use lib.Dec.{eqb};
@@ -17,6 +17,7 @@ ghost use lib.ListN.{getD};
 ghost use Rattle.format.specs.ExpressionLayout.{exprAt};
 ghost use Rattle.format.specs.Parsed.{done};
 ghost use Rattle.format.specs.Tree.{Expr};
+ghost use Rattle.tables.specs.Indexed.{IndexOf};
 ghost use Rattle.expressions.specs.declared.Head.{Head};
 ghost use Rattle.evaluation.specs.Value.{valued};
 ghost use Rattle.evaluation.specs.Combining.{combined, plainValue, ownValue, joinedValue};
@@ -45,13 +46,14 @@ fn reading_value(
     number: u8,
     at: usize,
     next: usize,
+    index: &[u16],
     keys: &[u64],
     words: &[u64],
     read: &[u8],
 ) -> Value
-    ensures { λ r. ⌜ r ≡ ownValue (now (keys .entry)) (now (words .entry)) (now (read .entry)) at (Head.Reading id number) next ⌝ }
+    ensures { λ r. ⌜ (IndexOf (now (index .entry)) (now (keys .entry)) → r ≡ ownValue (now (keys .entry)) (now (words .entry)) (now (read .entry)) at (Head.Reading id number) next) ⌝ }
 {
-    let k = name_position(keys, id, number);
+    let k = find_name(index, keys, id, number);
     let word = entry(words, k);
     if is_read(read, k) {
         return Value {
@@ -82,11 +84,19 @@ fn plain_value(word: u64, next: usize) -> Value
 }
 
 // What a head, which stands at a place, gives before any operand.
-fn own_value(h: Head, at: usize, next: usize, keys: &[u64], words: &[u64], read: &[u8]) -> Value
-    ensures { λ r. ⌜ r ≡ ownValue (now (keys .entry)) (now (words .entry)) (now (read .entry)) at h next ⌝ }
+fn own_value(
+    h: Head,
+    at: usize,
+    next: usize,
+    index: &[u16],
+    keys: &[u64],
+    words: &[u64],
+    read: &[u8],
+) -> Value
+    ensures { λ r. ⌜ (IndexOf (now (index .entry)) (now (keys .entry)) → r ≡ ownValue (now (keys .entry)) (now (words .entry)) (now (read .entry)) at h next) ⌝ }
 {
     match h {
-        Head::Reading(id, number) => reading_value(id, number, at, next, keys, words, read),
+        Head::Reading(id, number) => reading_value(id, number, at, next, index, keys, words, read),
         Head::Constant(v) => plain_value(v, next),
         Head::All(_) => plain_value(0xFFFF_FFFF_FFFF_FFFF, next),
         Head::Any(_) => plain_value(0, next),
@@ -138,21 +148,22 @@ pub fn value_at(
     s: &[u8],
     at: usize,
     levels: usize,
+    index: &[u16],
     keys: &[u64],
     words: &[u64],
     read: &[u8],
 ) -> Value
-    ensures { λ r. ⌜ ((e : Expr) (m : ℕ) → exprAt (now (s .entry)) levels at ≡ done e m
+    ensures { λ r. ⌜ (IndexOf (now (index .entry)) (now (keys .entry)) → (e : Expr) (m : ℕ) → exprAt (now (s .entry)) levels at ≡ done e m
         → r ≡ valued levels (now (keys .entry)) (now (words .entry)) (now (read .entry)) e m) ⌝ }
 {
     let top = head_at(s, at, levels);
     match top {
         HeadRead::Head(h, start) => {
             let mut ahead = arity(h);
-            let mut v = own_value(h, at, start, keys, words, read);
+            let mut v = own_value(h, at, start, index, keys, words, read);
             while 0 < ahead {
                 let place = v.next;
-                let x = value_at(s, place, levels - 1, keys, words, read);
+                let x = value_at(s, place, levels - 1, index, keys, words, read);
                 v = joined(h, v, x);
                 ahead -= 1;
             }

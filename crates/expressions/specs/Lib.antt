@@ -1,3 +1,4 @@
 -- Expressions as heads with operands.
 pub mod Heads
 pub mod Names
+pub mod Openings

@@ -9,12 +9,13 @@ use format::Refusal;
 use numbers::Width;
 ghost use mathlib.Core.Path.{_≡_};
 ghost use Rattle.format.specs.Fields.{fieldAt};
-ghost use Rattle.format.specs.Parsed.{making};
+ghost use Rattle.format.specs.Parsed.{done, making};
 ghost use Rattle.format.specs.ExpressionLayout.{operationOf, exprAt};
 ghost use Rattle.expressions.specs.declared.Head.{Head};
 ghost use Rattle.expressions.specs.Heads.{arityOf, readingHeadAt, operandCountAt, shiftAt, operationHeadAt, headAt};
 ghost use Rattle.fields.specs.Views.{byteParsed, nextParsed, forget};
 ghost use Rattle.expressions.specs.Heads.{headParsed};
+ghost use Rattle.expressions.specs.Openings.{Opening};
 
 // What an expression's own fields say. Its operands follow: none, the number that it holds, or one.
 pub enum Head {
@@ -192,8 +193,85 @@ pub fn head_at(s: &[u8], at: usize, levels: usize) -> HeadRead
     }
 }
 
-// The place after the expression at a place with so many levels left. It reads each byte of the expression once.
-pub fn expression_at(s: &[u8], at: usize, levels: usize) -> NextRead
+// The opening of a reading: five bytes, and no operand.
+pub const READING: usize = 0x500;
+
+// The opening of the expression at a place with so many levels left: 256 times the number of its own bytes, and how many operands follow them. It is 0 where the head is
+// not accepted.
+pub fn opening_at(s: &[u8], at: usize, levels: usize) -> usize
+    ensures { λ r. ⌜ ((r ≡ 0 → ⊥) → Opening (now (s .entry)) levels at r) ⌝ }
+{
+    if levels == 0 {
+        return 0;
+    }
+    if s.len() <= at {
+        return 0;
+    }
+    let room = s.len() - at;
+    let kind = s[at];
+    if kind == 0x01 {
+        if room < 5 {
+            return 0;
+        }
+        return READING;
+    }
+    if kind == 0x02 {
+        if room < 9 {
+            return 0;
+        }
+        return 0x900;
+    }
+    if kind == 0x12 {
+        return 0x101;
+    }
+    if room < 2 {
+        return 0;
+    }
+    let n = s[at + 1];
+    if n < 1 {
+        return 0;
+    }
+    if kind == 0x13 {
+        return 0x201;
+    }
+    if kind == 0x14 {
+        return 0x201;
+    }
+    if n < 2 {
+        return 0;
+    }
+    if kind == 0x10 {
+        return 0x200 + n as usize;
+    }
+    if kind == 0x11 {
+        return 0x200 + n as usize;
+    }
+    0
+}
+
+// The place after the expression at a place with so many levels left, or 0 where it is not accepted. It reads each byte of the expression at most once.
+fn end_of(s: &[u8], at: usize, levels: usize) -> usize
+    ensures { λ r. ⌜ ((r ≡ 0 → ⊥) → done tt r ≡ forget (exprAt (now (s .entry)) levels at)) ⌝ }
+{
+    let o = opening_at(s, at, levels);
+    if o == 0 {
+        return 0;
+    }
+    let mut left = o % 256;
+    let mut place = at + o / 256;
+    while 0 < left {
+        let next = end_of(s, place, levels - 1);
+        if next == 0 {
+            return 0;
+        }
+        place = next;
+        left -= 1;
+    }
+    place
+}
+
+// The place after the expression at a place with so many levels left, or its refusal. It reads each byte of the expression at most once.
+fn exact_at(s: &[u8], at: usize, levels: usize) -> NextRead
     ensures { λ r. ⌜ nextParsed r ≡ forget (exprAt (now (s .entry)) levels at) ⌝ }
 {
     let top = head_at(s, at, levels);
@@ -202,7 +280,7 @@ pub fn expression_at(s: &[u8], at: usize, levels: usize) -> NextRead
             let mut left = arity(h);
             let mut place = start;
             while 0 < left {
-                let e = expression_at(s, place, levels - 1);
+                let e = exact_at(s, place, levels - 1);
                 match e {
                     NextRead::Next(next) => {
                         place = next;
@@ -217,4 +295,15 @@ pub fn expression_at(s: &[u8], at: usize, levels: usize) -> NextRead
         }
         HeadRead::Refused(r) => NextRead::Refused(r),
     }
+}
+
+// The place after the expression at a place with so many levels left. Only where it is not accepted is it read a second time, for its refusal.
+pub fn expression_at(s: &[u8], at: usize, levels: usize) -> NextRead
+    ensures { λ r. ⌜ nextParsed r ≡ forget (exprAt (now (s .entry)) levels at) ⌝ }
+{
+    let next = end_of(s, at, levels);
+    if next != 0 {
+        return NextRead::Next(next);
+    }
+    exact_at(s, at, levels)
 }

@@ -5,10 +5,14 @@ use mathlib.Core.Bool.{true}
 use mathlib.Core.List.{List, [], _∷_, map}
 use native.Mathlib.Omega.{arith}
 use native.Mathlib.Nat.{zero-add}
+use native.Mathlib.Numerals.{add-one}
 use Rattle.format.specs.Fields.{fresh}
 use lib.ListN.{length, take, set, replicate, length-set, length-replicate}
+use lib.Seq.{length-take-le, take-suc-set}
 use Rattle.format.specs.declared.Refusal.{Refusal}
 use Rattle.format.specs.Parsed.{Parsed, done, refused, making, rowAt}
+use Rattle.tables.specs.Indexed.{Indexed}
+use Rattle.tables.proofs.IndexedLaws.{indexed-none, indexed-append}
 use Rattle.fields.specs.Seen.{unmarked, newAfter, Tells, Largest}
 use Rattle.fields.specs.declared.NextRead
 use Rattle.fields.specs.declared.NextRead.{NextRead}
@@ -63,26 +67,38 @@ module _ {A : Type 0} (p : List A → ℕ → Parsed A) (n at : ℕ) {x : NextRe
   unfolding making
   row-missed g e h k = k ∙ sym (ap (making g) (missed (λ _. tt) (rowAt p n [] at) (sym (ap nextParsed h) ∙ e)))
 
--- A loop over registers or nodes: `ids` holds the IDs of those before, of which there are `known`, each at most `largest`; these have `total` instances.
-pub record Elements {A : Type 0} (p : List A → ℕ → Parsed A) (id : A → ℕ) (totalOf : List A → ℕ) (whole : Parsed (List A)) (ids : List ℕ) (known largest total left place : ℕ) : Type 0 where
+-- A loop over registers or nodes: `ids` holds the IDs of those before, of which there are `known`, each at most `largest`, and the first `entered` are in `index`; these have `total` instances.
+pub record Elements {A : Type 0} (p : List A → ℕ → Parsed A) (id : A → ℕ) (totalOf : List A → ℕ) (whole : Parsed (List A)) (ids index : List ℕ) (known entered largest total left place : ℕ) : Type 0 where
   pub before : List A
   pub listed : Tells (fresh true (take known ids)) (map id before)
+  pub within : entered ≤ known
+  pub indexed : Indexed index (take known ids) entered
   pub bound : Largest largest (map id before)
   pub counted : total ≡ totalOf before
   pub same : making totalOf whole ≡ making (λ xs. total + totalOf xs) (rowAt p left before place)
 
 module _ {A : Type 0} (p : List A → ℕ → Parsed A) (id size : A → ℕ) (totalOf : List A → ℕ) (nothing : totalOf [] ≡ 0) (another : (a : A) (xs : List A) → totalOf (a ∷ xs) ≡ size a + totalOf xs) where
-  pub elements-begin : (n at : ℕ) (ids : List ℕ) → Elements p id totalOf (rowAt p n [] at) ids 0 0 0 n at
-  elements-begin n at ids =
-      record { before = []; listed = tells-nothing ids; bound = largest-nothing 0; counted = sym nothing; same = ap (λ g. making g (rowAt p n [] at)) (fun-ext (λ xs. sym (zero-add (totalOf xs)))) }
+  pub elements-begin : (n at : ℕ) (ids index : List ℕ) → Elements p id totalOf (rowAt p n [] at) ids index 0 0 0 0 n at
+  elements-begin n at ids index =
+      record { before = []; listed = tells-nothing ids; within = omega arith; indexed = indexed-none index (take 0 ids); bound = largest-nothing 0; counted = sym nothing; same = ap (λ g. making g (rowAt p n [] at)) (fun-ext (λ xs. sym (zero-add (totalOf xs)))) }
 
-  module _ {whole : Parsed (List A)} {ids : List ℕ} {known largest total n at : ℕ} (r : Elements p id totalOf whole ids known largest total n at) where
+  module _ {whole : Parsed (List A)} {ids index : List ℕ} {known entered largest total n at : ℕ} (r : Elements p id totalOf whole ids index known entered largest total n at) where
     pub elements-told : Tells (newAfter largest (take known ids)) (map id (r .before))
     elements-told = tells-new largest (take known ids) (r .listed) (r .bound)
 
-    pub elements-next : {i k m j : ℕ} → _≡_ {A = Parsed Element} (done (record { id = i; instances = k }) m) (making (λ a. record { id = id a; instances = size a }) (p (r .before) at)) → 0 < n → known < length ids → j ≡ max largest i
-        → Elements p id totalOf whole (set ids known i) (known + 1) j (total + k) (n - 1) m
-    elements-next {i} {k} {m} e h l g =
+    -- The IDs that are entered stay so when one is put after them.
+    elements-put : (i : ℕ) → known < length ids → (length (take (known + 1) (set ids known i)) ≡ known + 1) × Indexed index (take (known + 1) (set ids known i)) entered
+    elements-put i l = (
+      length-take-le (known + 1) (set ids known i) (let h = length-set ids known i in omega arith),
+      rw (add-one, take-suc-set ids known i l) (indexed-append index (take known ids) (i ∷ []) (let h = length-take-le known ids (omega arith) in omega (arith, r .within)) (r .indexed)),
+    )
+
+    pub elements-next : {i k m j more : ℕ} {index₁ : List ℕ} → _≡_ {A = Parsed Element} (done (record { id = i; instances = k }) m) (making (λ a. record { id = id a; instances = size a }) (p (r .before) at)) → 0 < n → known < length ids → length ids < 65536
+        → (more ≤ length (take (known + 1) (set ids known i))) × (length (take (known + 1) (set ids known i)) < 65536 → Indexed index (take (known + 1) (set ids known i)) entered → Indexed index₁ (take (known + 1) (set ids known i)) more)
+        → j ≡ max largest i
+        → Elements p id totalOf whole (set ids known i) index₁ (known + 1) more j (total + k) (n - 1) m
+    elements-next {i} {k} {m} e h l b x g =
+        let q = elements-put i l in
         let f : Found {B = Element} (λ a. record { id = id a; instances = size a }) (p (r .before) at) (record { id = i; instances = k }) m = found _ (p (r .before) at) e in
         let a = f .value in
         let ei : id a ≡ i = ap (λ x. x .id) (f .made) in
@@ -90,6 +106,8 @@ module _ {A : Type 0} (p : List A → ℕ → Parsed A) (id size : A → ℕ) (t
         record {
           before = a ∷ r .before;
           listed = tells-put ids (map id (r .before)) known i l (r .listed) ei;
+          within = omega (arith, x .0, q .0);
+          indexed = x .1 (omega (arith, q .0)) (q .1);
           bound = largest-put largest (map id (r .before)) i (r .bound) ei g;
           counted = omega (arith, another a (r .before), r .counted);
           same = r .same ∙ ap (making (λ xs. total + totalOf xs)) (row-step p n (r .before) at h (f .is)) ∙ making-making _ _ _

@@ -6,12 +6,15 @@ use mathlib.Core.List.{List, [], _∷_, _++_}
 use mathlib.Core.Logic.{_⊎_, ⊎-elim}
 use native.Mathlib.Numerals.{add-one}
 use native.Mathlib.Omega.{arith}
-use borrow.Author.Tests.{lt-ltb, le-ltb, ltb-true, eq-eqb, ne-eqb}
+use borrow.Author.Tests.{lt-ltb, le-ltb, ltb-true, le-leb, lt-leb, eq-eqb, ne-eqb}
 use lib.ListN.{length, take, drop, getD, set, replicate, List·getD-eq-default, drop-of-length-le}
 use lib.Seq.{drop-cons, getD-set-same, getD-set-other, take-suc-set}
-use lib.Dec.{ltb, eqb}
+use lib.Dec.{ltb, leb, eqb}
 use Rattle.numbers.proofs.Bools.{either, clash, or-left, same?}
 use Rattle.format.specs.Fields.{member, fresh}
+use Rattle.format.specs.Lookup.{some, position}
+use Rattle.format.proofs.FaultsLaws.{below?}
+use Rattle.format.proofs.PositionsLaws.{some-position}
 use Rattle.fields.specs.Seen.{unmarked, newAfter, instanceNumberAt, Tells, Largest}
 
 pub unmarked-beyond : (table : List ℕ) (x : ℕ) → length table ≤ x → false ≡ not (unmarked table x)
@@ -32,6 +35,18 @@ module _ (ids : List ℕ) (id i : ℕ) where
   unfolding member
   member-end h = rw (drop-of-length-le ids h)
 
+-- An ID stands in a list exactly where its position is inside.
+member-some : (x : ℕ) (ids : List ℕ) → member x ids ≡ some (λ y. eqb y x) ids
+unfolding member some
+member-some x [] = refl
+member-some x (i ∷ ids) = ap (λ b. b || member x ids) (eqb-swap x i) ∙ ap (λ b. eqb i x || b) (member-some x ids)
+  where
+    eqb-swap : (a b : ℕ) → eqb a b ≡ eqb b a
+    eqb-swap a b = ⊎-elim (λ e. eq-eqb a b e ∙ sym (eq-eqb b a (sym e))) (λ e. ne-eqb a b e ∙ sym (ne-eqb b a (λ g. e (sym g)))) (same? a b)
+
+member-position : (x : ℕ) (ids : List ℕ) → member x ids ≡ ltb (position (λ y. eqb y x) ids) (length ids)
+member-position x ids = member-some x ids ∙ some-position (λ y. eqb y x) ids
+
 -- What a mark or a list says of a number.
 module _ (table : List ℕ) (x : ℕ) {b : Bool} where
   pub mark-none : b ≡ not (unmarked table x) → b ≡ false → unmarked table x ≡ true
@@ -49,6 +64,12 @@ module _ (largest : ℕ) (ids : List ℕ) (x : ℕ) where
   pub new-sought : {b : Bool} → x ≤ largest → b ≡ member x ids → not b ≡ newAfter largest ids x
   unfolding newAfter fresh
   new-sought h e = rw (le-ltb largest x h) (ap not e)
+
+  pub new-found : {p : ℕ} → x ≤ largest → p ≡ position (λ y. eqb y x) ids → leb (length ids) p ≡ newAfter largest ids x
+  unfolding newAfter fresh
+  new-found {p} h e =
+      rw (le-ltb largest x h, member-position x ids, ← e)
+      (⊎-elim (λ l. lt-leb (length ids) p l ∙ sym (ap not (lt-ltb p (length ids) l))) (λ l. le-leb (length ids) p l ∙ sym (ap not (le-ltb p (length ids) l))) (below? p (length ids)))
 
   pub new-yes : {b : Bool} → b ≡ newAfter largest ids x → not b ≡ false → newAfter largest ids x ≡ true
   new-yes e g = ⊎-elim (λ h. h) (λ h. clash (ap not (e ∙ h)) g) (either (newAfter largest ids x))

@@ -4,9 +4,13 @@ use crate::attention_at;
 use crate::byte_at;
 use format::Kind;
 use format::Refusal;
-ghost use Prim.Native.Nat.{max};
+use tables::positions::enter_from;
+use tables::positions::find;
+ghost use Prim.Native.Nat.{max, _≤_, _<_};
 ghost use mathlib.Core.Bool.{not};
 ghost use mathlib.Core.Path.{_≡_};
+ghost use lib.ListN.{length};
+ghost use Rattle.tables.specs.Indexed.{Indexed};
 ghost use Rattle.format.specs.Fields.{member, attentionAt};
 ghost use Rattle.format.specs.Parsed.{requiring};
 ghost use Rattle.fields.specs.Seen.{unmarked, newAfter, instanceNumberAt};
@@ -37,14 +41,31 @@ fn contains(ids: &[u64], id: u64) -> bool
     false
 }
 
-// Whether an ID is new after those of a list, each of which is at most `largest`. It looks at the list only where the ID is not above `largest`.
-pub fn is_new(ids: &[u64], largest: u64, id: u64) -> bool
-    ensures { λ r. ⌜ r ≡ newAfter largest (now (ids .entry)) id ⌝ }
+// Whether an ID is new after those of a list, each of which is at most `largest`; the first `entered` of them are entered in an index. Where the ID is above `largest` it looks at
+// none of them, and where all are entered it goes by the index.
+pub fn is_new(ids: &[u64], index: &[u16], entered: usize, largest: u64, id: u64) -> bool
+    ensures { λ r. ⌜ (Indexed (now (index .entry)) (now (ids .entry)) entered → r ≡ newAfter largest (now (ids .entry)) id) ⌝ }
 {
     if largest < id {
         return true;
     }
+    if entered == ids.len() {
+        return ids.len() <= find(index, ids, id);
+    }
     !contains(ids, id)
+}
+
+// Enters the IDs of a list, the last of which is `id`, after the first `entered` of them: how many are entered. It enters none where none was and `id` is above `largest`.
+pub fn enter_ids(ids: &[u64], index: &mut [u16], entered: usize, largest: u64, id: u64) -> usize
+    ensures { λ r. ⌜ (r ≤ length (now (ids .entry))) × (length (now (ids .entry)) < 65536
+        → Indexed (now (index .entry)) (now (ids .entry)) entered
+        → Indexed (now (index .exit)) (now (ids .entry)) r) ⌝ }
+{
+    if entered == 0 && largest < id {
+        return 0;
+    }
+    enter_from(ids, index, entered);
+    ids.len()
 }
 
 // The larger of two IDs.

@@ -2,7 +2,7 @@
 use Prim.Native.Nat.{ℕ}
 use mathlib.Core.Bool.{true}
 use mathlib.Core.List.{List, []}
-use mathlib.Core.Path.{_≡_, refl, _∙_, ap}
+use mathlib.Core.Path.{_≡_, refl, sym, _∙_, ap}
 use Rattle.format.specs.Limits.{nodeLimit}
 use lib.Dec.{ltb}
 use Rattle.format.specs.Fields.{fieldAt, keywordAt, countAt, addressSize, fresh, member}
@@ -11,13 +11,13 @@ use Rattle.format.specs.RegisterLayout.{RegisterHead, registerInstanceAt, regis
 use Rattle.format.specs.NodeLayout.{NodeHead, instanceHeadAt, nodeInstanceAt, nodeHeadAt}
 use Rattle.format.specs.Tree.{RegisterInstance, NodeInstance}
 use Rattle.format.proofs.ParsedLaws.{never, then-out, then-in, making-out, requiring-out, requiring-in}
+use Rattle.fields.proofs.Parsing.{Found, found}
 use Rattle.registers.specs.declared.RegisterHead as declared
-use Rattle.nodes.specs.declared.NodeHead as node
 use Rattle.nodes.specs.Nodes.{nodeNumber}
 use Rattle.index.specs.declared.Head.{Head}
 use Rattle.index.specs.declared.Instance.{Instance}
-use Rattle.tables.specs.Kinds.{kindOf, wantedKind}
-use Rattle.index.specs.Rows.{headOf, nodeHeadOf, instanceOf}
+use Rattle.tables.specs.Kinds.{kindOf}
+use Rattle.index.specs.Rows.{headOf, instanceOf}
 
 pub done-out : {A : Type 0} {a b : A} {n m : ℕ} → done a n ≡ done b m → (a ≡ b) × (n ≡ m)
 done-out {A} {a} {b} {n} {m} e = (let p : a ≡ b = cc in p, let q : n ≡ m = cc in q)
@@ -28,6 +28,11 @@ same-done e d = done-out (e ∙ d)
 
 pub not-refused : {A B : Type 0} {p : Parsed A} {n k : ℕ} {b : A} {m : ℕ} → refused n k ≡ p → p ≡ done b m → B
 not-refused e d = never (e ∙ d)
+
+-- What was read is not refused, whatever is kept of it.
+pub unmade : {A B C : Type 0} (f : A → B) {p : Parsed A} {n k : ℕ} {a : A} {m : ℕ} → refused n k ≡ making f p → p ≡ done a m → C
+unfolding making
+unmade f e d = never (e ∙ ap (making f) d)
 
 some-limit : ltb 0 nodeLimit ≡ true
 unfolding nodeLimit
@@ -95,12 +100,6 @@ module _ (s : List ℕ) (at : ℕ) where
       let q = requiring-out _ _ _ _ (t .2) in
       then-in _ _ (requiring-in _ _ _ _ (q .0) refl) (t .3)
 
-  pub node-head-is : (ids : List ℕ) {h : NodeHead} {m next : ℕ} {k : node.NodeHead}
-      → _≡_ {A = Parsed NodeHead} (done (record { id = k .id; type = k .kind; count = k .count }) next) (nodeHeadAt s true [] at)
-      → nodeHeadAt s true ids at ≡ done h m
-      → _≡_ {A = Head} (record { id = k .id; kind = k .kind; code = wantedKind (k .kind); count = k .count; next = next }) (nodeHeadOf h m)
-  node-head-is ids a e = let f = same-done a (node-head-again ids e) in rw (← f .0, f .1)
-
   -- A node instance without those before it.
   pub node-instance-again : (total : ℕ) (before : List NodeInstance) {i : NodeInstance} {m : ℕ} → nodeInstanceAt s true total before at ≡ done i m
       → (nodeInstanceAt s true 0 [] at ≡ done i m) × (at ≡ i .place)
@@ -115,19 +114,17 @@ module _ (s : List ℕ) (at : ℕ) where
       let k = making-out _ _ (r .3) in
       (then-in _ _ (then-in _ _ (requiring-in _ _ _ _ (requiring-in _ _ _ _ (p .0) some-limit) refl) (h .3)) (t .3), ap (λ x. x .place) (k .2))
 
-  pub node-instance-is : (total : ℕ) (before : List NodeInstance) {i : NodeInstance} {m n next : ℕ} → done n next ≡ making nodeNumber (nodeInstanceAt s true 0 [] at)
-      → nodeInstanceAt s true total before at ≡ done i m
+  -- Two readings of a node instance, after whatever stands before it, give the same.
+  pub node-instance-is : (total : ℕ) (b : List NodeInstance) {n next : ℕ} → done n next ≡ making nodeNumber (nodeInstanceAt s true total b at)
+      → (before : List NodeInstance) {i : NodeInstance} {m : ℕ} → nodeInstanceAt s true total before at ≡ done i m
       → _≡_ {A = Instance} (record { number = n; place = at; next = next }) (instanceOf (i .number) (i .place) m)
-  unfolding making
-  node-instance-is total before {i} {m} {n} {next} a e =
-      let f = node-instance-again total before e in
-      let g = done-out (a ∙ ap (making nodeNumber) (f .0)) in
-      rw (g .0, ← f .1, g .1)
-
-  pub node-instance-there : {B : Type 0} (total : ℕ) (before : List NodeInstance) {i : NodeInstance} {m w z : ℕ} → refused w z ≡ making nodeNumber (nodeInstanceAt s true 0 [] at)
-      → nodeInstanceAt s true total before at ≡ done i m → B
-  unfolding making
-  node-instance-there total before a e = never (a ∙ ap (making nodeNumber) (node-instance-again total before e .0))
+  node-instance-is total b {n} {next} z before {i} {m} e =
+      let f : Found nodeNumber (nodeInstanceAt s true total b at) n next = found nodeNumber (nodeInstanceAt s true total b at) z in
+      let g = node-instance-again total b (f .is) in
+      let h = node-instance-again total before e in
+      let w = done-out (sym (g .0) ∙ h .0) in
+      let k : n ≡ i .number = sym (f .made) ∙ ap nodeNumber (w .0) in
+      rw (k, ← h .1, w .1)
 
   -- A section that was read: its keyword, its count, and its elements.
   module _ {A : Type 0} (word : List ℕ) (width : ℕ) (p : List A → ℕ → Parsed A) {xs : List A} {m : ℕ}

@@ -1,25 +1,27 @@
 -- The rows of a whole register and of a whole node.
-use Prim.Native.Nat.{ℕ, _+_, _<_}
+use Prim.Native.Nat.{ℕ, _+_, _*_, _<_}
 use mathlib.Core.Bool.{true}
 use mathlib.Core.List.{List, [], _∷_, map, map-map}
 use mathlib.Core.Path.{_≡_, refl, sym, _∙_, ap, subst}
 use native.Mathlib.Omega.{arith}
 use lib.ListN.{length, length-map}
 use Rattle.format.specs.Lookup.{entriesOf, nodeEntriesOf}
-use Rattle.format.specs.Parsed.{Parsed, done, rowAt}
+use Rattle.format.specs.Parsed.{Parsed, done, making, rowAt}
 use Rattle.format.specs.RegisterLayout.{RegisterHead, registerTotal, registerInstanceAt, registerHeadAt, registerAt}
 use Rattle.format.specs.NodeLayout.{NodeHead, nodeTotal, nodeInstanceAt, nodeHeadAt, nodeAt}
 use Rattle.format.specs.Tree.{RegisterInstance, Register, NodeInstance, Node}
 use Rattle.format.proofs.ParsedLaws.{then-out, making-out, making-in}
-use Rattle.fields.proofs.Parsing.{row-length}
+use Rattle.fields.specs.Views.{Element}
+use Rattle.fields.proofs.Parsing.{Found, found, row-length}
 use Rattle.registers.specs.Registers.{registerElement}
 use Rattle.format.proofs.RegistersAccepted.{registers-more}
 use Rattle.registers.proofs.RegisterLaws.{register-size}
-use Rattle.nodes.specs.Nodes.{nodeElement}
+use Rattle.nodes.specs.Nodes.{nodeId, nodeElement}
 use Rattle.format.proofs.NodesAccepted.{nodes-more}
-use Rattle.nodes.proofs.NodeLaws.{node-size}
+use Rattle.tables.specs.Kinds.{wantedKind}
 use Rattle.index.specs.declared.Head.{Head}
-use Rattle.index.specs.Rows.{Rows, filled, rowOf, registerRow, nodeRow, headOf, nodeHeadOf}
+use Rattle.index.specs.Rows.{Rows, filled, rowOf, registerRow, nodeRow, headOf}
+use Rattle.index.proofs.Again.{done-out, node-head-again}
 
 -- The instances of an element whose head was read.
 module _ {I : Type 0} (number place : I → ℕ) (q : ℕ → ℕ → List I → ℕ → Parsed I) where
@@ -51,29 +53,59 @@ module _ (s : List ℕ) (at : ℕ) (t : Rows) (k : ℕ) {h : Head} {u : Rows} {n
       let n : h .count ≡ length (r .instances) = y .2 ∙ ap length i in
       (y .0, subst (λ x. u ≡ filled t k (map registerRow (entriesOf x))) (g .2) (y .1 ∙ ap (filled t k) (sym (map-map registerRow _ (g .0)))), omega arith, omega (arith, registers-more r before))
 
-  -- One node.
-  pub node-filled : ((ids : List ℕ) (g : NodeHead) (m : ℕ) → nodeHeadAt s true ids at ≡ done g m → h ≡ nodeHeadOf g m)
-      → Fills (λ (i : NodeInstance). i .number) (λ i. i .place) (λ total kind. nodeInstanceAt s true total) h t k u next
-      → (before : List Node) (n : Node) (m : ℕ) → k ≡ nodeTotal before → nodeAt s true before at ≡ done n m
-      → (next ≡ m) × (u ≡ filled t k (map nodeRow (nodeEntriesOf n))) × (k + h .count ≡ k + length (map nodeRow (nodeEntriesOf n))) × (k + h .count ≡ nodeTotal (n ∷ before))
-  unfolding nodeAt nodeEntriesOf nodeRow
-  node-filled heads fills before r m e d =
-      let b = then-out _ _ d in
-      let g = making-out _ _ (b .3) in
-      let y = element-filled (λ i. i .number) (λ i. i .place) (λ total kind. nodeInstanceAt s true total) t k (heads _ (b .0) (b .1) (b .2)) fills _ (g .1) in
-      let i : g .0 ≡ r .instances = ap (λ x. x .instances) (g .2) in
-      let l : length (map nodeRow (nodeEntriesOf r)) ≡ length (r .instances) = length-map (nodeEntriesOf r) nodeRow ∙ length-map (r .instances) _ in
-      let n : h .count ≡ length (r .instances) = y .2 ∙ ap length i in
-      (y .0, subst (λ x. u ≡ filled t k (map nodeRow (nodeEntriesOf x))) (g .2) (y .1 ∙ ap (filled t k) (sym (map-map nodeRow _ (g .0)))), omega arith, omega (arith, nodes-more r before))
+-- One node: two readings of it, after whatever nodes with as many instances stand before it, give the same.
+module _ (s : List ℕ) (at : ℕ) where
+  row-same : {t u c d a b : ℕ} → t ≡ u → c ≡ d → a ≡ b → rowAt (nodeInstanceAt s true t) c [] a ≡ rowAt (nodeInstanceAt s true u) d [] b
+  row-same e f g = rw (e, f, g)
 
--- A register or a node that was read had room.
+  made-same : {h k : NodeHead} {is js : List NodeInstance} → h ≡ k → is ≡ js
+      → _≡_ {A = Node} (record { id = h .id; type = h .type; instances = is }) (record { id = k .id; type = k .type; instances = js })
+  made-same e f = rw (e, f)
+
+  node-same : (b before : List Node) → nodeTotal b ≡ nodeTotal before → {x y : Node} {m n : ℕ} → nodeAt s true b at ≡ done x m → nodeAt s true before at ≡ done y n → (x ≡ y) × (m ≡ n)
+  unfolding nodeAt
+  node-same b before t {x} {y} {m} {n} e d =
+      let p = then-out _ _ e in
+      let q = then-out _ _ d in
+      let h = done-out (sym (node-head-again s at (map nodeId b) (p .2)) ∙ node-head-again s at (map nodeId before) (q .2)) in
+      let f = making-out _ _ (p .3) in
+      let g = making-out _ _ (q .3) in
+      let w = done-out (sym (f .1) ∙ row-same t (ap (λ x. x .count) (h .0)) (h .1) ∙ g .1) in
+      (sym (f .2) ∙ made-same (h .0) (w .0) ∙ g .2, w .1)
+
+  module _ (t : Rows) (k : ℕ) {u : Rows} (b : List Node) (counted : k ≡ nodeTotal b) where
+    -- The rows of its instances, by its head.
+    pub node-filled : {id type count a : ℕ} → _≡_ {A = Parsed NodeHead} (done (record { id = id; type = type; count = count }) a) (nodeHeadAt s true (map nodeId b) at)
+        → ((is : List NodeInstance) (m : ℕ) → rowAt (nodeInstanceAt s true k) count [] a ≡ done is m → u ≡ filled t k (map (λ i. rowOf id (type * 2 + 1) (i .number) (i .place)) is))
+        → (n : Node) (m : ℕ) → nodeAt s true b at ≡ done n m → u ≡ filled t k (map nodeRow (nodeEntriesOf n))
+    unfolding nodeAt nodeEntriesOf nodeRow wantedKind
+    node-filled {id} {type} {count} {a} h f n m d =
+        let p = then-out _ _ d in
+        let g = making-out _ _ (p .3) in
+        let w = done-out (h ∙ p .2) in
+        let c : count ≡ p .0 .count = ap (λ x. x .count) (w .0) in
+        let i : id ≡ p .0 .id = ap (λ x. x .id) (w .0) in
+        let j : type ≡ p .0 .type = ap (λ x. x .type) (w .0) in
+        let r : rowAt (nodeInstanceAt s true k) count [] a ≡ done (g .0) m = rw (counted, c, w .1) (g .1) in
+        subst (λ x. u ≡ filled t k (map nodeRow (nodeEntriesOf x))) (g .2) (f (g .0) m r ∙ rw (i, j) (ap (filled t k) (sym (map-map nodeRow _ (g .0)))))
+
+    -- What is known of it after some nodes holds after whatever nodes with as many instances.
+    pub node-next : {i size next : ℕ} → _≡_ {A = Parsed Element} (done (record { id = i; instances = size }) next) (making nodeElement (nodeAt s true b at))
+        → ((n : Node) (m : ℕ) → nodeAt s true b at ≡ done n m → u ≡ filled t k (map nodeRow (nodeEntriesOf n)))
+        → (before : List Node) (n : Node) (m : ℕ) → k ≡ nodeTotal before → nodeAt s true before at ≡ done n m
+        → (next ≡ m) × (u ≡ filled t k (map nodeRow (nodeEntriesOf n))) × (k + size ≡ k + length (map nodeRow (nodeEntriesOf n))) × (k + size ≡ nodeTotal (n ∷ before))
+    unfolding nodeEntriesOf
+    node-next {i} {size} {next} z rows before n m e d =
+        let f : Found {B = Element} nodeElement (nodeAt s true b at) (record { id = i; instances = size }) next = found nodeElement (nodeAt s true b at) z in
+        let w = node-same b before (sym counted ∙ e) (f .is) d in
+        let l : length (map nodeRow (nodeEntriesOf n)) ≡ length (n .instances) = length-map (nodeEntriesOf n) nodeRow ∙ length-map (n .instances) _ in
+        let v : size ≡ length (n .instances) = sym (ap (λ x. x .instances) (f .made)) ∙ ap (λ x. length (x .instances)) (w .0) in
+        let r : nodeAt s true b at ≡ done n m = f .is ∙ rw (w .0, w .1) in
+        (w .1, rows n m r, omega arith, omega (arith, nodes-more n before))
+
+-- A register that was read had room.
 module _ (s : List ℕ) (at k : ℕ) where
   pub register-room : (before : List Register) (r : Register) (m : ℕ) → k ≡ registerTotal before → registerAt s true before at ≡ done r m → k < 1024
   register-room before r m e d =
       let z = register-size s before at (sym (making-in registerElement _ d refl)) in
-      omega (arith, z .0, z .1)
-
-  pub node-room : (before : List Node) (r : Node) (m : ℕ) → k ≡ nodeTotal before → nodeAt s true before at ≡ done r m → k < 256
-  node-room before r m e d =
-      let z = node-size s before at (sym (making-in nodeElement _ d refl)) in
       omega (arith, z .0, z .1)

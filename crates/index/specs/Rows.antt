@@ -6,7 +6,7 @@ use mathlib.Core.Path.{_≡_}
 use lib.ListN.{set}
 use Rattle.format.specs.Lookup.{RegisterEntry, NodeEntry}
 use Rattle.format.specs.RegisterLayout.{RegisterHead}
-use Rattle.format.specs.NodeLayout.{NodeHead, nodeInstanceAt}
+use Rattle.format.specs.NodeLayout.{nodeInstanceAt}
 use Rattle.format.specs.Parsed.{done}
 use Rattle.tables.specs.Kinds.{kindOf, wantedKind}
 use Rattle.tables.specs.Tables.{keyOf}
@@ -45,15 +45,12 @@ registerRow e = rowOf (e .id) (kindOf (e .type) (e .flags)) (e .instance .number
 unfoldable pub nodeRow : NodeEntry → Row
 nodeRow e = rowOf (e .id) (wantedKind (e .type)) (e .instance .number) (e .instance .place)
 
--- What is kept of the head of a register or a node, and of an instance.
+-- What is kept of the head of a register, and of an instance.
 abbrev pub headOf : RegisterHead → ℕ → declared.Head
 headOf h next = record { id = h .id; kind = h .type; code = kindOf (h .type) (h .flags); count = h .count; next = next }
 
 abbrev pub instanceOf : ℕ → ℕ → ℕ → Instance
 instanceOf n p next = record { number = n; place = p; next = next }
-
-abbrev pub nodeHeadOf : NodeHead → ℕ → declared.Head
-nodeHeadOf h next = record { id = h .id; kind = h .type; code = wantedKind (h .type); count = h .count; next = next }
 
 -- A node instance is read again at its place.
 pub record ReadAgain (s : List ℕ) (e : NodeEntry) : Type 0 where

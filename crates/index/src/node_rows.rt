@@ -1,137 +1,193 @@
-// The rows of the node instances.
-use crate::Head;
-use crate::Instance;
+// The nodes section, with a row for each node instance.
 use crate::put_row;
 use fields::ByteRead;
+use fields::CountRead;
+use fields::ElementRead;
 use fields::NextRead;
 use fields::NumberRead;
+use fields::SectionRead;
 use fields::keyword_at;
 use fields::number_count_at;
+use fields::seen::enter_ids;
+use fields::seen::larger;
 use nodes::NodeHeadRead;
 use nodes::node_head_at;
 use nodes::node_instance_at;
 use numbers::Width;
 use tables::key;
-ghost use Prim.Native.Nat.{ℕ, _<_};
+use tables::positions::NODE_PLACES;
+ghost use Prim.Native.Nat.{ℕ};
 ghost use mathlib.Core.Bool.{true};
 ghost use mathlib.Core.List.{List, [], map};
 ghost use mathlib.Core.Path.{_≡_};
 ghost use Rattle.format.specs.Lookup.{gathered, nodeEntriesOf};
-ghost use Rattle.format.specs.Parsed.{done, rowAt};
-ghost use Rattle.format.specs.NodeLayout.{NodeHead, nodeInstanceAt, nodeHeadAt, nodeAt, nodesAt};
+ghost use Rattle.format.specs.NodeLayout.{nodeInstanceAt, nodeTotal, nodeAt, nodesAt};
+ghost use Rattle.format.specs.Parsed.{done, making, rowAt};
 ghost use Rattle.format.specs.Tree.{NodeInstance, Node};
-ghost use Rattle.index.specs.Rows.{Rows, filled, nodeRow, rowOf, nodeHeadOf, instanceOf};
+ghost use Rattle.tables.specs.Indexed.{Indexed};
+ghost use Rattle.fields.specs.Seen.{newAfter, Tells};
+ghost use Rattle.fields.specs.Views.{nextParsed, elementParsed, countParsed, sectionParsed, forget};
+ghost use Rattle.nodes.specs.Nodes.{nodeId, nodeElement, nodeSection};
+ghost use Rattle.index.specs.Rows.{Rows, filled, nodeRow, rowOf};
 
-// A node instance that was read before.
-fn instance_at(s: &[u8], at: usize) -> Instance
-    ensures { λ r. ⌜ ((total : ℕ) (before : List NodeInstance) (i : NodeInstance) (m : ℕ)
-        → nodeInstanceAt (now (s .entry)) true total before at ≡ done i m
-        → r ≡ instanceOf (i .number) (i .place) m) ⌝ }
-{
-    let none = [0u8; 1];
-    let i = node_instance_at(s, at, 0, &none);
-    match i {
-        ByteRead::Byte(number, next) => Instance {
-            number,
-            place: at,
-            next,
-        },
-        ByteRead::Refused(_) => Instance {
-            number: 0,
-            place: at,
-            next: at,
-        },
-    }
-}
-
-// The instances of a node that was read before, from place k of the tables on: the place after them. It reads each instance once.
-fn fill_instances(
+// The instances of a node, with their rows; `total` instances stand before them in the file. It reads each once.
+fn instances_at(
     s: &[u8],
     at: usize,
     id: u64,
     code: u64,
     count: u8,
-    k: usize,
+    total: usize,
     keys: &mut [u64],
     kinds: &mut [u64],
     places: &mut [u64],
-) -> usize
-    requires { ⌜ k < 256 ⌝ }
-    ensures { λ r. ⌜ ((total : ℕ) (is : List NodeInstance) (m : ℕ)
+) -> NextRead
+    ensures { λ r. ⌜ nextParsed r ≡ forget (rowAt (nodeInstanceAt (now (s .entry)) true total) count [] at) ⌝ }
+    ensures { λ r. ⌜ ((is : List NodeInstance) (m : ℕ)
         → rowAt (nodeInstanceAt (now (s .entry)) true total) count [] at ≡ done is m
-        → (r ≡ m) × _≡_ {A = Rows}
+        → _≡_ {A = Rows}
         (record { keys = now (keys .exit); kinds = now (kinds .exit); places = now (places .exit) })
-        (filled (record { keys = now (keys .entry); kinds = now (kinds .entry); places = now (places .entry) }) k (map (λ i. rowOf id code (i .number) (i .place)) is))) ⌝ }
+        (filled (record { keys = now (keys .entry); kinds = now (kinds .entry); places = now (places .entry) }) total (map (λ i. rowOf id code (i .number) (i .place)) is))) ⌝ }
 {
+    let mut seen = [0u8; 256];
+    let mut begun = total;
     let mut left = count;
     let mut place = at;
-    let mut j = k;
     while 0 < left {
-        let i = instance_at(s, place);
-        put_row(
-            keys,
-            kinds,
-            places,
-            j,
-            key(id, i.number),
-            code,
-            i.place as u64,
-        );
-        place = i.next;
-        j += 1;
+        let i = node_instance_at(s, place, begun, &seen);
+        match i {
+            ByteRead::Byte(number, next) => {
+                seen[number as usize] = 1;
+                put_row(
+                    keys,
+                    kinds,
+                    places,
+                    begun,
+                    key(id, number),
+                    code,
+                    place as u64,
+                );
+                place = next;
+            }
+            ByteRead::Refused(r) => {
+                return NextRead::Refused(r);
+            }
+        }
+        begun += 1;
         left -= 1;
     }
-    place
+    NextRead::Next(place)
 }
 
-// What a node that was read before starts with.
-fn head_at(s: &[u8], at: usize) -> Head
-    ensures { λ r. ⌜ ((ids : List ℕ) (h : NodeHead) (m : ℕ) → nodeHeadAt (now (s .entry)) true ids at ≡ done h m → r ≡ nodeHeadOf h m) ⌝ }
+// A node, with the rows of its instances: its ID and how many instances it has. `ids` are the IDs of the nodes before it, each at most `largest`, and the first `entered` are entered
+// in an index; `total` is how many instances these nodes have.
+fn node_at(
+    s: &[u8],
+    at: usize,
+    ids: &[u64],
+    index: &[u16],
+    entered: usize,
+    largest: u64,
+    total: usize,
+    keys: &mut [u64],
+    kinds: &mut [u64],
+    places: &mut [u64],
+) -> ElementRead
+    ensures { λ r. ⌜ (Indexed (now (index .entry)) (now (ids .entry)) entered
+        → (before : List Node)
+        → Tells (newAfter largest (now (ids .entry))) (map nodeId before)
+        → total ≡ nodeTotal before
+        → elementParsed r ≡ making nodeElement (nodeAt (now (s .entry)) true before at)) ⌝ }
+    ensures { λ r. ⌜ (Indexed (now (index .entry)) (now (ids .entry)) entered
+        → (before : List Node)
+        → Tells (newAfter largest (now (ids .entry))) (map nodeId before)
+        → total ≡ nodeTotal before
+        → (n : Node) (m : ℕ)
+        → nodeAt (now (s .entry)) true before at ≡ done n m
+        → _≡_ {A = Rows}
+        (record { keys = now (keys .exit); kinds = now (kinds .exit); places = now (places .exit) })
+        (filled (record { keys = now (keys .entry); kinds = now (kinds .entry); places = now (places .entry) }) total (map nodeRow (nodeEntriesOf n)))) ⌝ }
 {
-    let none = [0u64; 1];
-    let top = node_head_at(s, at, &none[..0], 0);
+    let top = node_head_at(s, at, ids, index, entered, largest);
     match top {
-        NodeHeadRead::Head(h, next) => Head {
-            id: h.id,
-            kind: h.kind,
-            code: h.kind as u64 * 2 + 1,
-            count: h.count,
-            next,
-        },
-        NodeHeadRead::Refused(_) => Head {
-            id: 0,
-            kind: 0,
-            code: 0,
-            count: 0,
-            next: at,
-        },
+        NodeHeadRead::Head(h, a) => {
+            let id = h.id;
+            let count = h.count;
+            let code = h.kind as u64 * 2 + 1;
+            let rest = instances_at(s, a, id, code, count, total, keys, kinds, places);
+            match rest {
+                NextRead::Next(end) => ElementRead::Element(id, count, end),
+                NextRead::Refused(r) => ElementRead::Refused(r),
+            }
+        }
+        NodeHeadRead::Refused(r) => ElementRead::Refused(r),
     }
 }
 
-// So many nodes that were read before, from the front of the tables on. It reads each once.
-fn fill_rows(s: &[u8], at: usize, n: u64, keys: &mut [u64], kinds: &mut [u64], places: &mut [u64])
+// So many nodes, with the rows of their instances: how many instances they have. It reads each node once, and enters the IDs in an index once one is not above `largest`, which is 0 before the first.
+fn rows_at(
+    s: &[u8],
+    at: usize,
+    n: u64,
+    keys: &mut [u64],
+    kinds: &mut [u64],
+    places: &mut [u64],
+) -> CountRead
+    ensures { λ r. ⌜ countParsed r ≡ making nodeTotal (rowAt (nodeAt (now (s .entry)) true) n [] at) ⌝ }
     ensures { λ r. ⌜ ((ns : List Node) (m : ℕ)
         → rowAt (nodeAt (now (s .entry)) true) n [] at ≡ done ns m
         → _≡_ {A = Rows}
         (record { keys = now (keys .exit); kinds = now (kinds .exit); places = now (places .exit) })
         (filled (record { keys = now (keys .entry); kinds = now (kinds .entry); places = now (places .entry) }) 0 (map nodeRow (gathered nodeEntriesOf ns)))) ⌝ }
 {
+    let mut ids = [0u64; format::NODE_LIMIT];
+    let mut index = [0u16; NODE_PLACES];
+    let mut known = 0;
+    let mut entered = 0;
+    let mut largest = 0;
+    let mut total = 0;
     let mut left = n;
     let mut place = at;
-    let mut k = 0;
     while 0 < left {
-        if format::NODE_LIMIT <= k {
-            return;
+        let e = node_at(
+            s,
+            place,
+            &ids[..known],
+            &index,
+            entered,
+            largest,
+            total,
+            keys,
+            kinds,
+            places,
+        );
+        match e {
+            ElementRead::Element(id, count, next) => {
+                ids[known] = id;
+                entered = enter_ids(&ids[..known + 1], &mut index, entered, largest, id);
+                largest = larger(largest, id);
+                total += count as usize;
+                place = next;
+            }
+            ElementRead::Refused(r) => {
+                return CountRead::Refused(r);
+            }
         }
-        let h = head_at(s, place);
-        place = fill_instances(s, h.next, h.id, h.code, h.count, k, keys, kinds, places);
-        k += h.count as usize;
+        known += 1;
         left -= 1;
     }
+    CountRead::Count(total, place)
 }
 
-// The rows of all node instances of a nodes section that was read before. It reads the section once.
-pub fn fill_nodes(s: &[u8], at: usize, keys: &mut [u64], kinds: &mut [u64], places: &mut [u64])
+// The nodes section, with the rows of all node instances from the front of the tables on. It reads the section once.
+pub fn nodes_at(
+    s: &[u8],
+    at: usize,
+    keys: &mut [u64],
+    kinds: &mut [u64],
+    places: &mut [u64],
+) -> SectionRead
+    ensures { λ r. ⌜ sectionParsed r ≡ making nodeSection (nodesAt (now (s .entry)) true at) ⌝ }
     ensures { λ r. ⌜ ((ns : List Node) (m : ℕ)
         → nodesAt (now (s .entry)) true at ≡ done ns m
         → _≡_ {A = Rows}
@@ -144,11 +200,19 @@ pub fn fill_nodes(s: &[u8], at: usize, keys: &mut [u64], kinds: &mut [u64], plac
             let c = number_count_at(s, a, Width::Two);
             match c {
                 NumberRead::Number(n, b) => {
-                    fill_rows(s, b, n, keys, kinds, places);
+                    let rows = rows_at(s, b, n, keys, kinds, places);
+                    match rows {
+                        CountRead::Count(total, end) => SectionRead::Section(
+                            n as usize,
+                            total,
+                            end,
+                        ),
+                        CountRead::Refused(r) => SectionRead::Refused(r),
+                    }
                 }
-                NumberRead::Refused(_) => {}
+                NumberRead::Refused(r) => SectionRead::Refused(r),
             }
         }
-        NextRead::Refused(_) => {}
+        NextRead::Refused(r) => SectionRead::Refused(r),
     }
 }

@@ -100,7 +100,8 @@ fn head_at(s: &[u8], at: usize) -> Head
     ensures { λ r. ⌜ ((ids : List ℕ) (h : RegisterHead) (m : ℕ) → registerHeadAt (now (s .entry)) true ids at ≡ done h m → r ≡ headOf h m) ⌝ }
 {
     let none = [0u64; 1];
-    let top = register_head_at(s, at, &none[..0], 0);
+    let index = [0u16; 1];
+    let top = register_head_at(s, at, &none[..0], &index, 0, 0);
     match top {
         RegisterHeadRead::Head(h, next) => Head {
             id: h.id,

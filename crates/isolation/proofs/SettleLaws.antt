@@ -1,5 +1,5 @@
 -- What the code finds in the tables of an accepted file decides.
-use Prim.Native.Nat.{ℕ, _≤_}
+use Prim.Native.Nat.{ℕ, _≤_, _<_}
 use mathlib.Core.List.{List, [], _∷_, map}
 use mathlib.Core.Path.{_≡_, refl, sym, _∙_, ap}
 use native.Mathlib.Omega.{arith}
@@ -11,11 +11,12 @@ use Rattle.format.specs.Parsed.{done}
 use Rattle.format.specs.Rules.{Every, Meets}
 use Rattle.format.specs.Tree.{Chip}
 use Rattle.format.specs.Verdict.{verdict}
-use Rattle.format.proofs.Acceptance.{acceptance, read-to-end}
+use Rattle.format.proofs.Acceptance.{acceptance, read-to-end, verdict-out}
 use Rattle.tables.specs.Tables.{written}
 use Rattle.tables.specs.Keys.{registerKeys}
 use Rattle.format.specs.Finding.{ruleFor}
 use Rattle.reader.specs.Prepared.{expressionPlace}
+use Rattle.reader.proofs.NameLaws.{few-registers}
 use Rattle.walk.specs.declared.Walked.{Walked}
 use Rattle.walk.specs.Marks.{finished}
 use Rattle.walk.specs.TableGraph.{tableSize, tableGraph}
@@ -23,10 +24,14 @@ use Rattle.listing.specs.declared.Listing
 use Rattle.listing.specs.declared.Listing.{Listing}
 use Rattle.isolation.specs.Activity.{RulesAgain, activeWord, unreadPlace, firstUnread}
 use Rattle.isolation.specs.Outcome.{refusedOutcome, doneOutcome, isolate}
-use Rattle.isolation.specs.Ready.{Ready}
+use Rattle.isolation.specs.Ready.{Tabled, Ready}
 use Rattle.listing.specs.Rows.{listingValues, listingFor, tableLinks, listAfter}
 use Rattle.isolation.proofs.AnswerLaws.{column-front, column-entry, unread-refused, room-refused, all-written}
 use Rattle.isolation.proofs.UnreadLaws.{entries-rules}
+
+-- So few names as an accepted file has fit an index.
+pub keys-few : (file : List ℕ) → Bytes file → {attention : ℕ} {keys nodes rules children : List ℕ} → Tabled file attention keys nodes rules children → length keys < 65536
+keys-few file bytes {attention} {keys} t = few-registers file bytes (verdict-out file (t .accepted) .read) keys (t .keys-are)
 
 module _ (file : List ℕ) (bytes : Bytes file) (attention : ℕ) (words read list keys nodes rules children : List ℕ) (root : ℕ)
     (ready : Ready file attention words read keys nodes rules children root) {n : ℕ} (n-is : n ≡ tableSize nodes) where

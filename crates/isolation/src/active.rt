@@ -16,13 +16,21 @@ ghost use Rattle.format.specs.Rules.{Every};
 ghost use Rattle.format.specs.Tree.{Expr};
 ghost use Rattle.format.specs.Finding.{ruleFor};
 ghost use Rattle.reader.specs.Prepared.{expressionPlace};
+ghost use Rattle.tables.specs.Indexed.{IndexOf};
 ghost use Rattle.tables.specs.Tables.{written};
 ghost use Rattle.isolation.specs.Activity.{activeWord, unreadPlace, activityOf, inactive, RulesAgain, unreadAt, firstUnread, fitting};
 
 // What the rule whose expression stands at a place gives; 0 is the place of no rule. It reads each byte of the expression once.
-fn active_at(s: &[u8], at: usize, keys: &[u64], words: &[u64], read: &[u8]) -> Activity
+fn active_at(
+    s: &[u8],
+    at: usize,
+    index: &[u16],
+    keys: &[u64],
+    words: &[u64],
+    read: &[u8],
+) -> Activity
     ensures { λ r. ⌜ (at ≡ 0 → r ≡ inactive) ⌝ }
-    ensures { λ r. ⌜ ((e : Expr) (m : ℕ)
+    ensures { λ r. ⌜ (IndexOf (now (index .entry)) (now (keys .entry)) → (e : Expr) (m : ℕ)
         → (at ≡ 0 → ⊥)
         → exprAt (now (s .entry)) levels at ≡ done e m
         → r ≡ activityOf (now (keys .entry)) (now (words .entry)) (now (read .entry)) e) ⌝ }
@@ -30,7 +38,7 @@ fn active_at(s: &[u8], at: usize, keys: &[u64], words: &[u64], read: &[u8]) -> A
     if at == 0 {
         return Activity { word: 0, unread: 0 };
     }
-    let v = value_at(s, at, format::LEVELS, keys, words, read);
+    let v = value_at(s, at, format::LEVELS, index, keys, words, read);
     if v.unread {
         return Activity {
             word: 0,
@@ -48,20 +56,21 @@ fn active_at(s: &[u8], at: usize, keys: &[u64], words: &[u64], read: &[u8]) -> A
 pub fn fill_active(
     s: &[u8],
     rules: &[u64],
+    index: &[u16],
     keys: &[u64],
     words: &[u64],
     read: &[u8],
     active: &mut [u64],
     unread: &mut [u64],
 )
-    ensures { λ r. ⌜ ((attention : ℕ) (es : List NodeEntry) → Every (RulesAgain (now (s .entry))) es → now (rules .entry) ≡ map (λ e. expressionPlace (ruleFor attention (e .instance))) es
+    ensures { λ r. ⌜ (IndexOf (now (index .entry)) (now (keys .entry)) → (attention : ℕ) (es : List NodeEntry) → Every (RulesAgain (now (s .entry))) es → now (rules .entry) ≡ map (λ e. expressionPlace (ruleFor attention (e .instance))) es
         → now (active .exit) ≡ written (now (active .entry)) 0 (map (activeWord (now (keys .entry)) (now (words .entry)) (now (read .entry)) attention) es)) ⌝ }
-    ensures { λ r. ⌜ ((attention : ℕ) (es : List NodeEntry) → Every (RulesAgain (now (s .entry))) es → now (rules .entry) ≡ map (λ e. expressionPlace (ruleFor attention (e .instance))) es
+    ensures { λ r. ⌜ (IndexOf (now (index .entry)) (now (keys .entry)) → (attention : ℕ) (es : List NodeEntry) → Every (RulesAgain (now (s .entry))) es → now (rules .entry) ≡ map (λ e. expressionPlace (ruleFor attention (e .instance))) es
         → now (unread .exit) ≡ written (now (unread .entry)) 0 (map (unreadPlace (now (keys .entry)) (now (read .entry)) attention) es)) ⌝ }
 {
     let mut i = 0;
     while i < rules.len() {
-        let a = active_at(s, rules[i] as usize, keys, words, read);
+        let a = active_at(s, rules[i] as usize, index, keys, words, read);
         put(active, i, a.word);
         put(unread, i, a.unread as u64);
         i += 1;

@@ -8,6 +8,7 @@ use format::Kind;
 use format::Refusal;
 use listing::Listing;
 use listing::write_list;
+use tables::positions::enter_all;
 use walk::run;
 ghost use mathlib.Core.Path.{_≡_};
 ghost use Rattle.format.specs.Finding.{rootFor};
@@ -34,7 +35,18 @@ fn settle(
     let n = walk::size(nodes);
     let mut active = [0u64; format::NODE_LIMIT];
     let mut unread = [0u64; format::NODE_LIMIT];
-    fill_active(file, rules, keys, words, read, &mut active, &mut unread);
+    let mut index = [0u16; tables::positions::REGISTER_PLACES];
+    enter_all(keys, &mut index);
+    fill_active(
+        file,
+        rules,
+        &index,
+        keys,
+        words,
+        read,
+        &mut active,
+        &mut unread,
+    );
     let w = run(&active[..n], children, root);
     let marks = w.marks;
     let steps = w.steps;

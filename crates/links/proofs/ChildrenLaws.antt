@@ -1,5 +1,5 @@
 -- The laws of a node instance's children in a table.
-use Prim.Native.Nat.{ℕ, zero, suc, _+_, _-_, _%_, _≤_, _<_}
+use Prim.Native.Nat.{ℕ, zero, suc, _+_, _-_, _≤_, _<_}
 use mathlib.Core.Bool.{true}
 use mathlib.Core.List.{List, [], _∷_}
 use mathlib.Core.Path.{_≡_, refl, sym, _∙_, ap}
@@ -8,27 +8,14 @@ use native.Mathlib.Omega.{arith}
 use borrow.Author.Tests.{ltb-true}
 use lib.ListN.{length, set, length-set, length-replicate}
 use lib.Seq.{set-set, set-comm}
-use Rattle.format.specs.Fields.{fieldAt}
 use Rattle.format.specs.NodeLayout.{childAt}
 use Rattle.format.specs.Parsed.{done, rowAt}
 use Rattle.format.specs.Rules.{Every}
 use Rattle.format.specs.Tree.{Child, NodeInstance}
 use Rattle.format.proofs.ParsedLaws.{then-out, making-out, requiring-out}
 use Rattle.tables.specs.Tables.{written}
-use Rattle.tables.specs.Faults.{positionIn}
-use Rattle.index.proofs.PartsLaws.{child-fields, naming-all}
 use Rattle.index.proofs.RowsLaws.{row-every}
-use Rattle.links.specs.declared.Link.{Link}
-use Rattle.links.specs.Links.{childNumber, childrenPut, childless, childRow, linkOf}
-
--- A child whose fields the code read.
-pub child-link : (s : List ℕ) (at : ℕ) {t a : ℕ} → done t a ≡ fieldAt s at 1 → (before : List Child) (k : Child) (m : ℕ) → childAt s true before at ≡ done k m
-    → {id b : ℕ} → done id b ≡ fieldAt s a 2 → (nodes : List ℕ) {number next x : ℕ} → done number next ≡ fieldAt s b 1 → x ≡ positionIn nodes id number
-    → _≡_ {A = Link} (record { bit = t; number = x % 0x10000; next = next }) (linkOf nodes k m)
-unfolding childNumber
-child-link s at o before k m e p nodes q h =
-    let w = naming-all (child-fields s at before e .0) o p q in
-    rw (h, w .0, w .1, w .2, w .3)
+use Rattle.links.specs.Links.{childNumber, childrenPut, childless, childRow}
 
 -- The bit of a child that was read.
 child-small : (s : List ℕ) (before : List Child) (at : ℕ) (k : Child) (m : ℕ) → childAt s true before at ≡ done k m → k .bit < 64
@@ -73,10 +60,10 @@ pub child-row-length : (nodes : List ℕ) (i : NodeInstance) → length (childRo
 unfolding childRow
 child-row-length nodes i = linked-length nodes (childless 64) 0 (i .children) ∙ childless-length 64
 
-pub link-next : (nodes t : List ℕ) (at : ℕ) (k : Child) (m : ℕ) {l : Link} {u : List ℕ} → l ≡ linkOf nodes k m → u ≡ set t (at + l .bit) (l .number)
-    → (l .next ≡ m) × ((ks : List Child) → childrenPut nodes u at ks ≡ childrenPut nodes t at (k ∷ ks))
+pub link-next : (nodes t : List ℕ) (at : ℕ) (k : Child) {u : List ℕ} → u ≡ set t (at + k .bit) (childNumber nodes k)
+    → (ks : List Child) → childrenPut nodes u at ks ≡ childrenPut nodes t at (k ∷ ks)
 unfolding childrenPut
-link-next nodes t at k m e h = (ap (λ x. x .next) e, λ ks. rw (h, e))
+link-next nodes t at k e ks = rw e
 
 pub linked-none : (nodes t : List ℕ) (at : ℕ) → t ≡ childrenPut nodes t at []
 unfolding childrenPut

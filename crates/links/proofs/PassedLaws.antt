@@ -3,7 +3,7 @@ use Prim.Native.Nat.{ℕ}
 use mathlib.Core.Bool.{true}
 use mathlib.Core.List.{List, []}
 use mathlib.Core.Path.{_≡_, _∙_, ap}
-use Rattle.format.specs.NodeLayout.{InstanceHead, captureAt, ruleAt, childAt, instanceHeadAt, nodeInstanceAt}
+use Rattle.format.specs.NodeLayout.{InstanceHead, captureAt, ruleAt, instanceHeadAt, nodeInstanceAt}
 use Rattle.format.specs.Parsed.{Parsed, done, refused, making, rowAt}
 use Rattle.format.specs.Tree.{NodeInstance}
 use Rattle.format.proofs.ParsedLaws.{never}
@@ -21,7 +21,7 @@ module _ {A : Type 0} {p : Parsed A} {a : A} {m : ℕ} (e : p ≡ done a m) wher
   unfolding making
   not-passed d = never (d ∙ ap forget e)
 
--- A node instance whose head the code read, with the place a after it; b is the place after its captures, and c that after its rules.
+-- A node instance whose head the code read, with the place a after it; b is the place after its captures.
 module _ (s : List ℕ) (at : ℕ) {h : InstanceHead} {a : ℕ} (o : done h a ≡ instanceHeadAt s true 0 [] at)
     (total : ℕ) (before : List NodeInstance) (i : NodeInstance) (m : ℕ) (e : nodeInstanceAt s true total before at ≡ done i m) where
   pub captures-after : (b : ℕ) × (rowAt (captureAt s) (h .captures) [] a ≡ done (i .captures) b)
@@ -37,12 +37,3 @@ module _ (s : List ℕ) (at : ℕ) {h : InstanceHead} {a : ℕ} (o : done h a �
         let g = same-done o (q .read) in
         let k : rowAt (captureAt s) (h .captures) [] a ≡ done (i .captures) (q .rules-at) = rw (g .0, g .1) (q .captures) in
         (q .children-at, rw (g .0, passed-over k p) (q .rules))
-
-    pub children-after : {v : Unit {0}} {c : ℕ} → done v c ≡ forget (rowAt (ruleAt s true) (h .rules) [] b)
-        → rowAt (childAt s true) (h .children) [] c ≡ done (i .children) m
-    children-after {v} {c} r =
-        let q = instance-parts s at total before e in
-        let g = same-done o (q .read) in
-        let k : rowAt (captureAt s) (h .captures) [] a ≡ done (i .captures) (q .rules-at) = rw (g .0, g .1) (q .captures) in
-        let l : rowAt (ruleAt s true) (h .rules) [] b ≡ done (i .rules) (q .children-at) = rw (g .0, passed-over k p) (q .rules) in
-        rw (g .0, passed-over l r) (q .children)

@@ -8,7 +8,6 @@ use lib.ListN.{set, replicate}
 use Rattle.format.specs.Rules.{Every, Distinct}
 use Rattle.format.specs.Tree.{Rule, Child, NodeInstance}
 use Rattle.tables.specs.Faults.{positionIn}
-use Rattle.links.specs.declared.Link.{Link}
 
 -- The place of the expression of the first rule for an attention type; 0 where there is none.
 unfoldable pub rulePlace : ℕ → List Rule → ℕ
@@ -31,10 +30,6 @@ childless n = replicate n 0xFFFF
 -- The 64 places of a node instance in a table of children.
 unfoldable pub childRow : List ℕ → NodeInstance → List ℕ
 childRow nodes i = childrenPut nodes (childless 64) 0 (i .children)
-
--- What is kept of a child, with the place after it.
-abbrev pub linkOf : List ℕ → Child → ℕ → Link
-linkOf nodes k next = record { bit = k .bit; number = childNumber nodes k; next = next }
 
 -- The position of the node instance that a child names, if there is a child.
 unfoldable pub childIn : List ℕ → List Child → Option ℕ

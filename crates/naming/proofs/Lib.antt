@@ -1,2 +1,3 @@
--- The laws of the names in an expression and their faults.
+-- The laws of the names in an expression and their faults, and of names that fit.
 pub mod JudgedLaws
+pub mod FitLaws

@@ -1,18 +1,19 @@
 -- The laws of the nodes section.
-use Prim.Native.Nat.{ℕ, _+_, _≤_, _<_}
+use Prim.Native.Nat.{ℕ, zero, suc, _+_, _*_, _-_, _≤_, _<_}
 use mathlib.Core.Path.{_≡_, refl, sym, _∙_, ap}
 use mathlib.Core.Bool.{true}
-use mathlib.Core.List.{List, [], map}
+use mathlib.Core.List.{List, [], _∷_, map}
 use native.Mathlib.Omega.{arith}
-use borrow.Author.Tests.{ltb-true}
+use borrow.Author.Tests.{le-leb, ltb-true}
 use lib.ListN.{length}
 use lib.Dec.{ltb}
+use Rattle.numbers.specs.Field.{present, field}
 use Rattle.format.specs.declared.Refusal.{Refusal}
 use Rattle.format.specs.Limits.{nodeLimit, levels}
 use Rattle.format.specs.Parsed.{Parsed, done, refused, andThen, making, requiring, rowAt}
 use Rattle.format.specs.Fields.{fieldAt, countAt, typeAt, attentionAt, fresh}
 use Rattle.format.specs.ExpressionLayout.{exprAt}
-use Rattle.format.specs.Tree.{Rule, Child, NodeInstance, Node}
+use Rattle.format.specs.Tree.{Capture, Rule, Child, NodeInstance, Node}
 use Rattle.format.specs.NodeLayout.{NodeHead, InstanceHead, captureAt, ruleAt, childAt, instanceHeadAt, nodeInstanceAt, nodeTotal, nodeHeadAt, nodeAt}
 use Rattle.nodes.specs.declared.NodeHead as declared
 use Rattle.nodes.specs.declared.NodeHeadRead
@@ -22,9 +23,10 @@ use Rattle.nodes.specs.declared.InstanceHeadRead
 use Rattle.nodes.specs.declared.InstanceHeadRead.{InstanceHeadRead}
 use Rattle.fields.specs.Seen.{unmarked, newAfter, instanceNumberAt, Tells}
 use Rattle.nodes.specs.Nodes.{childBitAt, countsAt, nodeBodyAt}
-use Rattle.fields.specs.Views.{Element, refusedBy}
+use Rattle.fields.specs.Views.{Element, refusedBy, forget}
 use Rattle.nodes.specs.Nodes.{nodeHeadParsed, instanceHeadParsed, ruleAttention, childBit, nodeNumber, nodeId, nodeElement}
-use Rattle.fields.proofs.Parsing.{Found, found, followed, passed, row-length, row-bound}
+use Rattle.format.proofs.ParsedLaws.{then-in, making-in, require-in}
+use Rattle.fields.proofs.Parsing.{Found, found, followed, passed, making-making, row-end, row-step, row-length, row-bound}
 use Rattle.fields.proofs.Steps.{goes-making, stops-making}
 use Rattle.fields.proofs.SeenLaws.{number-told, tells-is}
 
@@ -37,6 +39,26 @@ node-limit = refl
 pub captures-blind : (s : List ℕ) (n at : ℕ) → rowAt (captureAt s) n [] at ≡ rowAt (λ before. captureAt s []) n [] at
 unfolding captureAt
 captures-blind s n at = refl
+
+-- So many captures whose bytes are all there.
+capture-there : (s : List ℕ) (before : List Capture) (at : ℕ) → at + 4 ≤ length s → (k : Capture) × (captureAt s before at ≡ done k (at + 4))
+unfolding captureAt fieldAt present
+capture-there s before at h =
+    let a : at + 3 ≤ length s = omega arith in
+    let b : at + 3 + 1 ≤ length s = omega arith in
+    let e : at + 3 + 1 ≡ at + 4 = omega arith in (
+      record { place = at; id = field s at 3; number = field s (at + 3) 1 },
+      then-in _ _ (require-in _ _ _ _ (le-leb _ _ a) refl) (making-in _ _ (require-in _ _ _ _ (le-leb _ _ b) (ap (done (field s (at + 3) 1)) e)) refl),
+    )
+
+pub captures-there : (s : List ℕ) (n : ℕ) (before : List Capture) (at : ℕ) {m : ℕ} → at + n * 4 ≤ length s → m ≡ at + n * 4 → done tt m ≡ forget (rowAt (captureAt s) n before at)
+unfolding making
+captures-there s zero before at {m} h e = let z : m ≡ at = omega arith in ap (done tt) z ∙ sym (ap forget (row-end (captureAt s) 0 before at (omega arith)))
+captures-there s (suc n) before at {m} h e =
+    let d = capture-there s before at (omega arith) in
+    let z : suc n - 1 ≡ n = omega arith in
+    captures-there s n (d .0 ∷ before) (at + 4) (omega arith) (omega arith)
+    ∙ sym (ap forget (row-step (captureAt s) (suc n) before at (omega arith) (d .1) ∙ ap (λ j. making (λ rest. d .0 ∷ rest) (rowAt (captureAt s) j (d .0 ∷ before) (at + 4))) z) ∙ making-making (λ _. tt) (λ rest. d .0 ∷ rest) (rowAt (captureAt s) n (d .0 ∷ before) (at + 4)))
 
 -- A rule and a child after those that the marks tell of.
 pub rule-told : (g : Rule → ℕ) (s : List ℕ) (before : List Rule) (at : ℕ) (table : List ℕ) {y : Parsed ℕ} → Tells (unmarked table) (map ruleAttention before)

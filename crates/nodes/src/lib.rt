@@ -1,20 +1,14 @@
-// The nodes section.
+// Nodes and node instances.
 use expressions::expression_at;
 use fields::ByteRead;
-use fields::CountRead;
-use fields::ElementRead;
 use fields::NextRead;
 use fields::NumberRead;
-use fields::SectionRead;
 use fields::byte_at;
 use fields::byte_count_at;
-use fields::keyword_at;
 use fields::number_at;
-use fields::number_count_at;
 use fields::seen::instance_number_at;
 use fields::seen::is_marked;
 use fields::seen::is_new;
-use fields::seen::larger;
 use fields::seen::new_attention_at;
 use fields::type_at;
 use format::Kind;
@@ -27,12 +21,13 @@ ghost use mathlib.Core.Path.{_≡_};
 ghost use lib.ListN.{length};
 ghost use Rattle.format.specs.Fields.{fieldAt};
 ghost use Rattle.format.specs.Parsed.{making, requiring, rowAt};
-ghost use Rattle.format.specs.Tree.{Rule, Child, NodeInstance, Node};
-ghost use Rattle.format.specs.NodeLayout.{captureAt, ruleAt, childAt, instanceHeadAt, nodeInstanceAt, nodeTotal, nodeHeadAt, nodeAt, nodesAt};
+ghost use Rattle.format.specs.Tree.{Rule, Child, NodeInstance};
+ghost use Rattle.format.specs.NodeLayout.{captureAt, ruleAt, childAt, instanceHeadAt, nodeInstanceAt, nodeHeadAt};
+ghost use Rattle.tables.specs.Indexed.{Indexed};
 ghost use Rattle.fields.specs.Seen.{unmarked, newAfter, Tells};
 ghost use Rattle.nodes.specs.Nodes.{childBitAt, countsAt, nodeBodyAt};
-ghost use Rattle.fields.specs.Views.{byteParsed, numberParsed, nextParsed, elementParsed, countParsed, sectionParsed, forget};
-ghost use Rattle.nodes.specs.Nodes.{instanceHeadParsed, nodeHeadParsed, ruleAttention, childBit, nodeNumber, nodeId, nodeElement, nodeSection};
+ghost use Rattle.fields.specs.Views.{byteParsed, numberParsed, nextParsed, forget};
+ghost use Rattle.nodes.specs.Nodes.{instanceHeadParsed, nodeHeadParsed, ruleAttention, childBit, nodeNumber};
 
 // What a node starts with.
 pub struct NodeHead {
@@ -78,8 +73,8 @@ fn capture_at(s: &[u8], at: usize) -> NextRead
     }
 }
 
-// The captured registers of a node instance. It reads each once.
-pub fn captures_at(s: &[u8], at: usize, n: u8) -> NextRead
+// The captured registers of a node instance, one after another, for the refusal of the first that is cut off. It reads each once.
+fn each_capture_at(s: &[u8], at: usize, n: u8) -> NextRead
     ensures { λ r. ⌜ nextParsed r ≡ forget (rowAt (captureAt (now (s .entry))) n [] at) ⌝ }
 {
     let mut left = n;
@@ -97,6 +92,17 @@ pub fn captures_at(s: &[u8], at: usize, n: u8) -> NextRead
         left -= 1;
     }
     NextRead::Next(place)
+}
+
+// The captured registers of a node instance: four bytes each, with any values. It looks at none where all are there.
+pub fn captures_at(s: &[u8], at: usize, n: u8) -> NextRead
+    ensures { λ r. ⌜ nextParsed r ≡ forget (rowAt (captureAt (now (s .entry))) n [] at) ⌝ }
+{
+    let size = n as usize * 4;
+    if at <= s.len() && size <= s.len() - at {
+        return NextRead::Next(at + size);
+    }
+    each_capture_at(s, at, n)
 }
 
 // A rule: its attention type. `seen` marks the attention types of the rules before it.
@@ -118,7 +124,7 @@ fn rule_at(s: &[u8], at: usize, seen: &[u8]) -> ByteRead
     }
 }
 
-// The rules of a node instance. It reads each once.
+// The rules of a node instance. It reads each once, a refused one twice.
 pub fn rules_at(s: &[u8], at: usize, n: u8) -> NextRead
     ensures { λ r. ⌜ nextParsed r ≡ forget (rowAt (ruleAt (now (s .entry)) true) n [] at) ⌝ }
 {
@@ -296,39 +302,22 @@ pub fn node_instance_at(s: &[u8], at: usize, begun: usize, seen: &[u8]) -> ByteR
     }
 }
 
-// The instances of a node; `total` instances stand before them in the file. It reads each once.
-fn node_instances_at(s: &[u8], at: usize, count: u8, total: usize) -> NextRead
-    ensures { λ r. ⌜ nextParsed r ≡ forget (rowAt (nodeInstanceAt (now (s .entry)) true total) count [] at) ⌝ }
-{
-    let mut seen = [0u8; 256];
-    let mut begun = total;
-    let mut left = count;
-    let mut place = at;
-    while 0 < left {
-        let i = node_instance_at(s, place, begun, &seen);
-        match i {
-            ByteRead::Byte(number, next) => {
-                seen[number as usize] = 1;
-                place = next;
-            }
-            ByteRead::Refused(r) => {
-                return NextRead::Refused(r);
-            }
-        }
-        begun += 1;
-        left -= 1;
-    }
-    NextRead::Next(place)
-}
-
-// The ID of a node: none of those before it, each of which is at most `largest`.
-fn node_id_at(s: &[u8], at: usize, ids: &[u64], largest: u64) -> NumberRead
-    ensures { λ r. ⌜ numberParsed r ≡ requiring (newAfter largest (now (ids .entry))) 7 at (fieldAt (now (s .entry)) at 2) ⌝ }
+// The ID of a node: none of those before it, each of which is at most `largest`, and the first `entered` are entered in an index.
+fn node_id_at(
+    s: &[u8],
+    at: usize,
+    ids: &[u64],
+    index: &[u16],
+    entered: usize,
+    largest: u64,
+) -> NumberRead
+    ensures { λ r. ⌜ (Indexed (now (index .entry)) (now (ids .entry)) entered
+        → numberParsed r ≡ requiring (newAfter largest (now (ids .entry))) 7 at (fieldAt (now (s .entry)) at 2)) ⌝ }
 {
     let i = number_at(s, at, Width::Two);
     match i {
         NumberRead::Number(id, next) => {
-            if !is_new(ids, largest, id) {
+            if !is_new(ids, index, entered, largest, id) {
                 return NumberRead::Refused(Refusal {
                     kind: Kind::Duplicate,
                     place: at,
@@ -340,13 +329,21 @@ fn node_id_at(s: &[u8], at: usize, ids: &[u64], largest: u64) -> NumberRead
     }
 }
 
-// What a node starts with; `ids` are the IDs of the nodes before it, each at most `largest`.
-pub fn node_head_at(s: &[u8], at: usize, ids: &[u64], largest: u64) -> NodeHeadRead
-    ensures { λ r. ⌜ ((numbers : List ℕ)
+// What a node starts with; `ids` are the IDs of the nodes before it, each at most `largest`, and the first `entered` are entered in an index.
+pub fn node_head_at(
+    s: &[u8],
+    at: usize,
+    ids: &[u64],
+    index: &[u16],
+    entered: usize,
+    largest: u64,
+) -> NodeHeadRead
+    ensures { λ r. ⌜ (Indexed (now (index .entry)) (now (ids .entry)) entered
+        → (numbers : List ℕ)
         → Tells (newAfter largest (now (ids .entry))) numbers
         → nodeHeadParsed r ≡ nodeHeadAt (now (s .entry)) true numbers at) ⌝ }
 {
-    let i = node_id_at(s, at, ids, largest);
+    let i = node_id_at(s, at, ids, index, entered, largest);
     match i {
         NumberRead::Number(id, a) => {
             let t = type_at(s, a);
@@ -365,83 +362,5 @@ pub fn node_head_at(s: &[u8], at: usize, ids: &[u64], largest: u64) -> NodeHeadR
             }
         }
         NumberRead::Refused(r) => NodeHeadRead::Refused(r),
-    }
-}
-
-// A node: its ID and how many instances it has. `ids` are the IDs of the nodes before it, each at most `largest`, and `total` is how many instances these nodes have.
-fn node_at(s: &[u8], at: usize, ids: &[u64], largest: u64, total: usize) -> ElementRead
-    ensures { λ r. ⌜ ((before : List Node)
-        → Tells (newAfter largest (now (ids .entry))) (map nodeId before)
-        → total ≡ nodeTotal before
-        → elementParsed r ≡ making nodeElement (nodeAt (now (s .entry)) true before at)) ⌝ }
-{
-    let top = node_head_at(s, at, ids, largest);
-    match top {
-        NodeHeadRead::Head(h, a) => {
-            let id = h.id;
-            let count = h.count;
-            let rest = node_instances_at(s, a, count, total);
-            match rest {
-                NextRead::Next(end) => ElementRead::Element(id, count, end),
-                NextRead::Refused(r) => ElementRead::Refused(r),
-            }
-        }
-        NodeHeadRead::Refused(r) => ElementRead::Refused(r),
-    }
-}
-
-// So many nodes: how many instances they have. It reads each node once, and looks for its ID among those before it only where it is not above all of them.
-fn node_rows_at(s: &[u8], at: usize, n: u64) -> CountRead
-    ensures { λ r. ⌜ countParsed r ≡ making nodeTotal (rowAt (nodeAt (now (s .entry)) true) n [] at) ⌝ }
-{
-    let mut ids = [0u64; format::NODE_LIMIT];
-    let mut known = 0;
-    let mut largest = 0;
-    let mut total = 0;
-    let mut left = n;
-    let mut place = at;
-    while 0 < left {
-        let e = node_at(s, place, &ids[..known], largest, total);
-        match e {
-            ElementRead::Element(id, count, next) => {
-                ids[known] = id;
-                largest = larger(largest, id);
-                total += count as usize;
-                place = next;
-            }
-            ElementRead::Refused(r) => {
-                return CountRead::Refused(r);
-            }
-        }
-        known += 1;
-        left -= 1;
-    }
-    CountRead::Count(total, place)
-}
-
-// The nodes section.
-pub fn nodes_at(s: &[u8], at: usize) -> SectionRead
-    ensures { λ r. ⌜ sectionParsed r ≡ making nodeSection (nodesAt (now (s .entry)) true at) ⌝ }
-{
-    let k = keyword_at(s, at, &format::NODE);
-    match k {
-        NextRead::Next(a) => {
-            let c = number_count_at(s, a, Width::Two);
-            match c {
-                NumberRead::Number(n, b) => {
-                    let rows = node_rows_at(s, b, n);
-                    match rows {
-                        CountRead::Count(total, end) => SectionRead::Section(
-                            n as usize,
-                            total,
-                            end,
-                        ),
-                        CountRead::Refused(r) => SectionRead::Refused(r),
-                    }
-                }
-                NumberRead::Refused(r) => SectionRead::Refused(r),
-            }
-        }
-        NextRead::Refused(r) => SectionRead::Refused(r),
     }
 }

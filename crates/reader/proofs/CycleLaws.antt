@@ -1,7 +1,7 @@
 -- The cycles of the table of children are the cycles of the child entries.
 use Prim.Native.Nat.{ℕ, suc, _+_, _*_, _≤_, _<_, _^_}
 use mathlib.Core.Bool.{Bool, true, false, cond}
-use mathlib.Core.List.{List, [], _∷_, _++_, map}
+use mathlib.Core.List.{List, [], _∷_, _++_}
 use mathlib.Core.Logic.{_⊎_, ⊎-elim}
 use mathlib.Core.Option.{some}
 use mathlib.Core.Path.{_≡_, refl, sym, _∙_, ap, subst, fun-ext}
@@ -33,14 +33,14 @@ use Rattle.tables.specs.Faults.{judgedAt, positionIn}
 use Rattle.tables.proofs.TablesLaws.{written-front}
 use Rattle.tables.specs.Keys.{nodeKeys}
 use Rattle.index.specs.Columns.{nodePlaces}
-use Rattle.index.specs.Rows.{ReadAgain, entryPlace}
+use Rattle.index.specs.Rows.{entryPlace}
 use Rattle.links.specs.Links.{childRow, childIn, ChildrenFit}
 use Rattle.links.proofs.ChildrenLaws.{child-row-length}
 use Rattle.links.proofs.TableLaws.{table-child}
 use Rattle.tables.proofs.ColumnLaws.{column-at}
 use Rattle.format.proofs.PositionsLaws.{at-most, some-position, some-out}
 use Rattle.tables.proofs.KeysLaws.{node-position-in}
-use Rattle.reader.proofs.NameLaws.{layout-meets, entries-again}
+use Rattle.reader.proofs.NameLaws.{layout-meets}
 
 module _ (c : Chip) (meets : LayoutMeets c) (present : NamesPresent c) where
   abbrev entries : List NodeEntry
@@ -223,10 +223,10 @@ rows-length nodes [] = refl
 rows-length nodes (e ∷ es) =
     length-append (childRow nodes (e .instance)) _ ∙ (let a = child-row-length nodes (e .instance) in let b = rows-length nodes es in omega arith)
 
--- What the code finds in the table that it fills.
-module _ (s : List ℕ) (bytes : Bytes s) (c : Chip) {end : ℕ} (file : fileAt s true 0 ≡ done c end) (clean : referenceFaults c ≡ []) (nodes places : List ℕ)
-    (nodes-are : nodes ≡ nodeKeys c) (places-are : places ≡ nodePlaces c) {child : List ℕ}
-    (filled : (es : List NodeEntry) → Every (ReadAgain s) es → places ≡ map entryPlace es → child ≡ written (replicate 16384 65535) 0 (gathered (λ e. childRow nodes (e .instance)) es))
+-- What the code finds in a table that begins with the children of each.
+module _ (s : List ℕ) (bytes : Bytes s) (c : Chip) {end : ℕ} (file : fileAt s true 0 ≡ done c end) (clean : referenceFaults c ≡ []) (places table : List ℕ)
+    (places-are : places ≡ nodePlaces c) (long : length (nodeEntries c) * 64 ≤ length table) {child : List ℕ}
+    (filled : child ≡ written table 0 (gathered (λ e. childRow (nodeKeys c) (e .instance)) (nodeEntries c)))
     {k : ℕ} (found : k ≡ firstCycle child (length places)) (m : ℕ) where
   size-is : length places ≡ length (nodeEntries c)
   size-is = ap length places-are ∙ length-map (nodeEntries c) entryPlace
@@ -235,16 +235,11 @@ module _ (s : List ℕ) (bytes : Bytes s) (c : Chip) {end : ℕ} (file : fileAt 
   unfolding nodeLimit
   room = layout-meets s bytes file .limits .nodes
 
-  child-is : child ≡ gathered (λ e. childRow (nodeKeys c) (e .instance)) (nodeEntries c) ++ drop (length (gathered (λ e. childRow (nodeKeys c) (e .instance)) (nodeEntries c))) (replicate 16384 65535)
-  child-is =
+  found-is : k ≡ firstCycle (gathered (λ e. childRow (nodeKeys c) (e .instance)) (nodeEntries c) ++ drop (length (gathered (λ e. childRow (nodeKeys c) (e .instance)) (nodeEntries c))) table) (length (nodeEntries c))
+  found-is =
       let l = rows-length (nodeKeys c) (nodeEntries c) in
-      let h : length (gathered (λ e. childRow (nodeKeys c) (e .instance)) (nodeEntries c)) ≤ length (replicate {A = ℕ} 16384 65535) = rw (length-replicate {A = ℕ} 16384 65535) (omega (arith, room)) in
-      filled (nodeEntries c) (entries-again s file) places-are
-      ∙ ap (λ z. written (replicate 16384 65535) 0 (gathered (λ e. childRow z (e .instance)) (nodeEntries c))) nodes-are
-      ∙ written-front (replicate 16384 65535) _ h
-
-  found-is : k ≡ firstCycle (gathered (λ e. childRow (nodeKeys c) (e .instance)) (nodeEntries c) ++ drop (length (gathered (λ e. childRow (nodeKeys c) (e .instance)) (nodeEntries c))) (replicate 16384 65535)) (length (nodeEntries c))
-  found-is = found ∙ ap (λ z. firstCycle z (length places)) child-is ∙ ap (firstCycle _) size-is
+      let h : length (gathered (λ e. childRow (nodeKeys c) (e .instance)) (nodeEntries c)) ≤ length table = omega (arith, long) in
+      found ∙ ap (λ z. firstCycle z (length places)) (filled ∙ written-front table _ h) ∙ ap (firstCycle _) size-is
 
   pub fault-found : k < length places → refused 14 (getD places k 0) ≡ judgedAt (cycleFaults c) m
   fault-found h =
@@ -253,3 +248,8 @@ module _ (s : List ℕ) (bytes : Bytes s) (c : Chip) {end : ℕ} (file : fileAt 
 
   pub fault-none : length places ≤ k → done tt m ≡ judgedAt (cycleFaults c) m
   fault-none h = cycle-none c (layout-meets s bytes file) (references-out c clean .0) room _ found-is m (omega (arith, size-is))
+
+-- A table for as many node instances as a file may have.
+pub children-long : (s : List ℕ) → Bytes s → {c : Chip} {end : ℕ} → fileAt s true 0 ≡ done c end → length (nodeEntries c) * 64 ≤ length (replicate {A = ℕ} 16384 0)
+unfolding nodeLimit
+children-long s bytes {c} file = let h : length (nodeEntries c) ≤ 256 = layout-meets s bytes file .limits .nodes in rw (length-replicate {A = ℕ} 16384 0) (omega arith)

@@ -3,6 +3,7 @@ use Prim.Native.Nat.{ℕ}
 use mathlib.Core.Path.{_≡_, refl, sym, _∙_, ap}
 use mathlib.Core.Bool.{true}
 use mathlib.Core.List.{List}
+use native.Mathlib.Omega.{arith}
 use lib.ListN.{length}
 use Rattle.format.specs.declared.Refusal.{Refusal}
 use Rattle.format.specs.Parsed.{Parsed, done, andThen, making}
@@ -16,6 +17,9 @@ use Rattle.fields.specs.declared.SectionRead
 use Rattle.fields.specs.declared.SectionRead.{SectionRead}
 use Rattle.fields.specs.declared.ByteRead
 use Rattle.fields.specs.declared.ByteRead.{ByteRead}
+use Rattle.reader.specs.declared.Layout.{Layout}
+use Rattle.reader.specs.declared.LayoutRead
+use Rattle.reader.specs.declared.LayoutRead.{LayoutRead}
 use Rattle.reader.specs.Layout.{Summary, summary, layoutAt, layoutValues}
 use Rattle.fields.specs.Views.{Section, refusedBy, byteParsed, sectionParsed}
 use Rattle.format.proofs.Grouping.{register-count, node-count}
@@ -91,3 +95,15 @@ sections s at {l} {end} e =
     let b = followed (nodesAt s true (c .place)) _ (c .next) in
     let f : Found (λ ts. summary (d .value) (c .value) (b .value) ts (d .place) (c .place) (b .place)) (rootsAt s true (b .place)) l end = found _ _ (sym (b .next)) in
     read-is s at (d .value) (c .value) (b .value) (f .value) (d .place) (c .place) (b .place) (d .is) (c .is) (b .is) (f .is) (f .made)
+
+-- Two answers that are one hold one layout, and a refusal is no layout.
+abbrev nodesPlaceOf : LayoutRead → ℕ
+nodesPlaceOf (LayoutRead.Done l) = l .«nodes_at»
+nodesPlaceOf (LayoutRead.Refused r) = 0
+
+pub same-nodes : (s : List ℕ) {l k : Layout} → LayoutRead.Done l ≡ LayoutRead.Done k → (ns : List Node) (m : ℕ) → nodesAt s true (k .«nodes_at») ≡ done ns m
+    → nodesAt s true (l .«nodes_at») ≡ done ns m
+same-nodes s e ns m d = ap (nodesAt s true) (ap nodesPlaceOf e) ∙ d
+
+pub no-layout : {A : Type 0} {r : Refusal} {l : Layout} → LayoutRead.Refused r ≡ LayoutRead.Done l → A
+no-layout e = let z : _≡_ {A = ℕ} 0 1 = cc in absurd (omega arith)

@@ -1,21 +1,29 @@
 -- The faults that the tables show are those of the file.
-use Prim.Native.Nat.{ℕ}
+use Prim.Native.Nat.{ℕ, _≤_, _<_}
 use mathlib.Core.Bool.{true}
-use mathlib.Core.List.{List, map}
-use mathlib.Core.Path.{_≡_, sym, _∙_, ap}
+use mathlib.Core.List.{List, [], _∷_, _++_, map}
+use mathlib.Core.Path.{_≡_, refl, sym, _∙_, ap}
+use native.Mathlib.Omega.{arith}
+use lib.ListN.{length, length-map}
 use Rattle.numbers.specs.BigEndian.{Bytes}
 use Rattle.format.specs.FileLayout.{rootsAt, fileAt}
-use Rattle.format.specs.Lookup.{gathered, NodeEntry, nodeEntries}
+use Rattle.format.specs.Limits.{registerLimit, nodeLimit}
+use Rattle.format.specs.Lookup.{gathered, registerEntries, NodeEntry, nodeEntries}
 use Rattle.format.specs.Parsed.{Parsed, done, refused}
-use Rattle.format.specs.References.{instanceFaults, rootFaults, referenceFaults}
+use Rattle.format.specs.References.{Fault, instanceFaults, rootFaults, referenceFaults}
 use Rattle.format.specs.Rules.{Every}
 use Rattle.format.specs.Tree.{Root, Chip}
 use Rattle.format.proofs.FileAccepted.{file-out}
 use Rattle.format.proofs.Grouping.{LayoutMeets, layout-out}
 use Rattle.format.proofs.GatheredLaws.{gathered-same}
-use Rattle.format.proofs.ParsedLaws.{then-out, making-out}
+use Rattle.format.proofs.ParsedLaws.{never, then-out, making-out}
+use Rattle.fields.specs.declared.NextRead
+use Rattle.fields.specs.declared.NextRead.{NextRead}
+use Rattle.fields.specs.Views.{nextParsed}
 use Rattle.tables.specs.Faults.{judgedAt}
-use Rattle.tables.proofs.FaultsLaws.{judged-stop, judged-on}
+use Rattle.tables.specs.Keys.{registerKeys, nodeKeys}
+use Rattle.tables.specs.Tables.{keyOf}
+use Rattle.tables.proofs.FaultsLaws.{judged-none, judged-stop, judged-on}
 use Rattle.index.specs.Rows.{ReadAgain, entryPlace, entryWanted}
 use Rattle.index.specs.Columns.{TablesOf}
 use Rattle.index.proofs.RowsLaws.{nodes-again}
@@ -27,6 +35,22 @@ use Rattle.references.proofs.RootsLaws.{roots-same}
 pub layout-meets : (s : List ℕ) → Bytes s → {c : Chip} {end : ℕ} → fileAt s true 0 ≡ done c end → LayoutMeets c
 layout-meets s bytes {c} e = layout-out c (file-out s bytes e .1) .1
 
+-- So few names as a file has fit an index.
+module _ (s : List ℕ) (bytes : Bytes s) {c : Chip} {end : ℕ} (file : fileAt s true 0 ≡ done c end) where
+  pub few-registers : (keys : List ℕ) → keys ≡ registerKeys c → length keys < 65536
+  unfolding registerLimit
+  few-registers keys e =
+      let h : length (registerEntries c) ≤ 1024 = layout-meets s bytes file .limits .registers in
+      let l : length keys ≡ length (registerEntries c) = ap length e ∙ length-map (registerEntries c) (λ e. keyOf (e .id) (e .instance .number)) in
+      omega arith
+
+  pub few-nodes : (keys : List ℕ) → keys ≡ nodeKeys c → length keys < 65536
+  unfolding nodeLimit
+  few-nodes keys e =
+      let h : length (nodeEntries c) ≤ 256 = layout-meets s bytes file .limits .nodes in
+      let l : length keys ≡ length (nodeEntries c) = ap length e ∙ length-map (nodeEntries c) (λ e. keyOf (e .id) (e .instance .number)) in
+      omega arith
+
 -- Its node instances are read again at their places.
 pub entries-again : (s : List ℕ) {c : Chip} {end : ℕ} → fileAt s true 0 ≡ done c end → Every (ReadAgain s) (nodeEntries c)
 unfolding fileAt nodeEntries
@@ -37,6 +61,15 @@ entries-again s {c} e =
     let g = making-out _ _ (v .3) in
     let n : v .0 ≡ c .nodes = ap (λ x. x .nodes) (g .2) in
     nodes-again s (u .1) (v .2 ∙ ap (λ x. done x (v .1)) n)
+
+pub empty-left : (xs ys : List Fault) → xs ++ ys ≡ [] → xs ≡ []
+empty-left [] ys e = refl
+empty-left (x ∷ xs) ys e = let z : _≡_ {A = ℕ} 0 1 = cc in absurd (omega arith)
+
+-- What is done goes on.
+went : (r : NextRead) {u : Unit {0}} {n : ℕ} → nextParsed r ≡ done u n → (k : ℕ) × (r ≡ NextRead.Next k)
+went (NextRead.Next k) e = (k, refl)
+went (NextRead.Refused x) e = never e
 
 module _ (s : List ℕ) (bytes : Bytes s) (keys kinds nodes wanted places : List ℕ) (c : Chip) (end : ℕ) (file : fileAt s true 0 ≡ done c end)
     (tables : TablesOf c keys kinds nodes wanted places) where
@@ -67,3 +100,11 @@ module _ (s : List ℕ) (bytes : Bytes s) (keys kinds nodes wanted places : List
     names-roots e {z} at g r =
         let j = judged-on (gathered (instanceFaults c) (nodeEntries c)) (gathered (rootFaults c) (c .roots)) end (sym nodes-judged ∙ e) in
         g (nodeEntries c) (entries-again s file) (tables .places-are) (c .roots) end r ∙ ap (λ x. judgedAt x end) roots-are ∙ sym (j .1)
+
+  -- Where the file has no fault, no node instance has one.
+  pub nodes-clean : referenceFaults c ≡ [] → (r : NextRead)
+      → ((es : List NodeEntry) → Every (ReadAgain s) es → places ≡ map entryPlace es → wanted ≡ map entryWanted es → nextParsed r ≡ judgedAt (gathered (entryFaultsIn keys kinds nodes) es) 0)
+      → (k : ℕ) × (r ≡ NextRead.Next k)
+  unfolding referenceFaults
+  nodes-clean clean r f =
+      went r (nodes-judged f ∙ ap (λ fs. judgedAt fs 0) (empty-left (gathered (instanceFaults c) (nodeEntries c)) _ clean) ∙ judged-none 0)

@@ -29,16 +29,15 @@ module _ (s : List ℕ) (at attention : ℕ) (c : Chip) (end : ℕ) (file : file
     (keys names places : List ℕ) (ek : keys ≡ registerKeys c) (en : names ≡ nodeKeys c) (ep : places ≡ nodePlaces c) (t : Lent) where
   pub lent-filled : {a b d e f : List ℕ} {k : ℕ} → a ≡ written (t .registers) 0 keys → b ≡ written (t .nodes) 0 names
       → ((es : List NodeEntry) → Every (ReadAgain s) es → places ≡ map entryPlace es → d ≡ written (t .rules) 0 (map (λ e. rulePlace attention (e .instance .rules)) es))
-      → ((es : List NodeEntry) → Every (ReadAgain s) es → places ≡ map entryPlace es → e ≡ written (t .children) 0 (gathered (λ e. childRow names (e .instance)) es))
+      → e ≡ written (t .children) 0 (gathered (λ e. childRow names (e .instance)) (nodeEntries c))
       → ((ts : List Root) (m : ℕ) → rootsAt s true at ≡ done ts m → k ≡ rootPosition names attention ts) → f ≡ set (t .root) 0 k
       → _≡_ {A = Lent} (record { registers = a; nodes = b; rules = d; children = e; root = f }) (filledBy attention c t)
   unfolding filledBy written
   lent-filled p q r u v w =
       let again = entries-again s file in
       let x = r (nodeEntries c) again ep in
-      let y = u (nodeEntries c) again ep in
       let z = v (c .roots) end roots in
-      rw (p, q, x, y, w, z, ek, en)
+      rw (p, q, x, u, w, z, ek, en)
 
 -- Room.
 module _ (m n registers nodes rules children root : ℕ) where

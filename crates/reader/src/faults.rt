@@ -3,59 +3,88 @@ use cycles::first_cycle;
 use fields::NextRead;
 use format::Kind;
 use format::Refusal;
-use links::fill_children;
 use references::node_faults;
 use references::roots::root_faults;
-ghost use Prim.Native.Nat.{ℕ};
+use tables::positions::enter_all;
+ghost use Prim.Native.Nat.{ℕ, _*_, _≤_};
 ghost use mathlib.Core.Bool.{true};
-ghost use mathlib.Core.List.{[], _++_};
+ghost use mathlib.Core.List.{List, [], _++_};
 ghost use mathlib.Core.Path.{_≡_};
+ghost use lib.ListN.{length};
+ghost use Rattle.numbers.specs.BigEndian.{Bytes};
 ghost use Rattle.format.specs.Cycles.{cycleFaults};
 ghost use Rattle.format.specs.FileLayout.{rootsAt, fileAt};
+ghost use Rattle.format.specs.Lookup.{gathered, nodeEntries};
 ghost use Rattle.format.specs.Parsed.{done};
 ghost use Rattle.format.specs.References.{referenceFaults};
 ghost use Rattle.format.specs.Tree.{Chip};
+ghost use Rattle.fields.specs.declared.NextRead.{NextRead};
 ghost use Rattle.fields.specs.Views.{nextParsed};
 ghost use Rattle.tables.specs.Faults.{judgedAt};
+ghost use Rattle.tables.specs.Indexed.{IndexOf};
 ghost use Rattle.tables.specs.Keys.{nodeKeys};
+ghost use Rattle.tables.specs.Tables.{written};
 ghost use Rattle.index.specs.Columns.{nodePlaces, TablesOf};
+ghost use Rattle.links.specs.Links.{childRow};
 
-// The first fault of 12 and 13, by the file's tables; where there is none, the place after the roots section.
+// The first fault of 12 and 13, by the file's tables; where there is none, the place after the roots section, and the children of each node instance are in `child`.
 fn name_faults(
     s: &[u8],
     roots_at: usize,
+    index: &[u16],
     keys: &[u64],
     kinds: &[u64],
+    node_index: &[u16],
     nodes: &[u64],
     wanted: &[u64],
     places: &[u64],
+    child: &mut [u16],
 ) -> NextRead
     ensures { λ r. ⌜ ((c : Chip) (end : ℕ)
         → fileAt (now (s .entry)) true 0 ≡ done c end
         → rootsAt (now (s .entry)) true «roots_at» ≡ done (c .roots) end
         → TablesOf c (now (keys .entry)) (now (kinds .entry)) (now (nodes .entry)) (now (wanted .entry)) (now (places .entry))
+        → IndexOf (now (index .entry)) (now (keys .entry))
+        → IndexOf (now («node_index» .entry)) (now (nodes .entry))
         → nextParsed r ≡ judgedAt (referenceFaults c) end) ⌝ }
+    ensures { λ r. ⌜ ((c : Chip) (end next : ℕ)
+        → r ≡ NextRead.Next next
+        → fileAt (now (s .entry)) true 0 ≡ done c end
+        → TablesOf c (now (keys .entry)) (now (kinds .entry)) (now (nodes .entry)) (now (wanted .entry)) (now (places .entry))
+        → IndexOf (now (index .entry)) (now (keys .entry))
+        → IndexOf (now («node_index» .entry)) (now (nodes .entry))
+        → now (child .exit) ≡ written (now (child .entry)) 0 (gathered (λ e. childRow (now (nodes .entry)) (e .instance)) (nodeEntries c))) ⌝ }
 {
-    let f = node_faults(s, places, wanted, keys, kinds, nodes);
+    let f = node_faults(
+        s,
+        places,
+        wanted,
+        index,
+        keys,
+        kinds,
+        node_index,
+        nodes,
+        child,
+    );
     match f {
         NextRead::Next(_) => root_faults(s, roots_at, places, nodes),
         NextRead::Refused(r) => NextRead::Refused(r),
     }
 }
 
-// 14 where the child entries make a cycle; otherwise the place that is given.
-fn cycle_fault(s: &[u8], nodes: &[u64], places: &[u64], next: usize) -> NextRead
-    ensures { λ r. ⌜ ((c : Chip) (end : ℕ)
-        → fileAt (now (s .entry)) true 0 ≡ done c end
+// 14 where the child entries make a cycle, by the table of children; otherwise the place that is given.
+fn cycle_fault(child: &[u16], places: &[u64], next: usize) -> NextRead
+    ensures { λ r. ⌜ ((s : List ℕ) (c : Chip) (end : ℕ) (table : List ℕ)
+        → Bytes s
+        → fileAt s true 0 ≡ done c end
         → referenceFaults c ≡ []
-        → now (nodes .entry) ≡ nodeKeys c
         → now (places .entry) ≡ nodePlaces c
+        → length (nodeEntries c) * 64 ≤ length table
+        → now (child .entry) ≡ written table 0 (gathered (λ e. childRow (nodeKeys c) (e .instance)) (nodeEntries c))
         → nextParsed r ≡ judgedAt (cycleFaults c) next) ⌝ }
 {
     let n = places.len();
-    let mut child = [0xFFFFu16; 16384];
-    fill_children(s, places, nodes, &mut child);
-    let k = first_cycle(&child, n);
+    let k = first_cycle(child, n);
     if k < n {
         return NextRead::Refused(Refusal {
             kind: Kind::ChildCycle,
@@ -81,9 +110,25 @@ pub fn table_faults(
         → TablesOf c (now (keys .entry)) (now (kinds .entry)) (now (nodes .entry)) (now (wanted .entry)) (now (places .entry))
         → nextParsed r ≡ judgedAt (referenceFaults c ++ cycleFaults c) end) ⌝ }
 {
-    let f = name_faults(s, roots_at, keys, kinds, nodes, wanted, places);
+    let mut index = [0u16; tables::positions::REGISTER_PLACES];
+    enter_all(keys, &mut index);
+    let mut node_index = [0u16; tables::positions::NODE_PLACES];
+    enter_all(nodes, &mut node_index);
+    let mut child = [0u16; 16384];
+    let f = name_faults(
+        s,
+        roots_at,
+        &index,
+        keys,
+        kinds,
+        &node_index,
+        nodes,
+        wanted,
+        places,
+        &mut child,
+    );
     match f {
-        NextRead::Next(end) => cycle_fault(s, nodes, places, end),
+        NextRead::Next(end) => cycle_fault(&child, places, end),
         NextRead::Refused(r) => NextRead::Refused(r),
     }
 }

@@ -49,7 +49,7 @@ fn summary(l: Layout) -> Summary
     }
 }
 
-// The checker: what an accepted file holds, or the refusal that the rules name first. It reads the registers section twice, for its layout and its rows, and the nodes section four times, for its layout, its rows, its names and its children; and the captures and rules of each root's node instance once more.
+// The checker: what an accepted file holds, or the refusal that the rules name first. It reads the registers section twice, for its layout and its rows, and the nodes section twice, for its layout and its rows, and for its names and children; and the rules of each root's node instance once more.
 pub fn check(file: &[u8]) -> Checked
     ensures { λ r. ⌜ checkedValues r ≡ check (now (file .entry)) ⌝ }
 {

@@ -6,34 +6,38 @@ use crate::summary;
 use format::Checked;
 use format::Kind;
 use format::Refusal;
-use index::node_rows::fill_nodes;
+use index::node_rows::nodes_at;
 use index::register_rows::fill_registers;
-use links::fill_children;
 use links::fill_rules;
+use references::node_faults;
 use references::roots::root_position;
 use tables::copy;
+use tables::positions::enter_all;
 use tables::put;
 ghost use Prim.Native.Nat.{ℕ};
 ghost use mathlib.Core.Bool.{true};
+ghost use mathlib.Core.List.{[]};
 ghost use mathlib.Core.Path.{_≡_};
 ghost use Rattle.format.specs.FileLayout.{rootsAt, fileAt};
 ghost use Rattle.format.specs.Parsed.{done};
+ghost use Rattle.format.specs.References.{referenceFaults};
 ghost use Rattle.format.specs.Refusals.{checkedValues};
 ghost use Rattle.format.specs.Tree.{Chip};
 ghost use Rattle.format.specs.Verdict.{verdict};
-ghost use Rattle.tables.specs.Keys.{registerKeys, nodeKeys};
-ghost use Rattle.index.specs.Columns.{nodePlaces};
+ghost use Rattle.index.specs.Columns.{TablesOf};
 ghost use Rattle.reader.specs.Layout.{laidOut, layoutAt, Bounded};
 ghost use Rattle.reader.specs.Filled.{filledBy};
 ghost use Rattle.reader.specs.Prepared.{lentTables, roomOf, prepared, preparing};
 
-// The lent tables, from the tables of a file that was read before. It reads the nodes section twice.
+// The lent tables, from the tables of a file that was read before. It reads each node instance once for its names and children, and its rules up to the wanted one once more.
 fn fill_lent(
     s: &[u8],
     roots_at: usize,
     attention: u8,
     keys: &[u64],
+    kinds: &[u64],
     names: &[u64],
+    wanted: &[u64],
     places: &[u64],
     registers: &mut [u64],
     nodes: &mut [u64],
@@ -44,16 +48,29 @@ fn fill_lent(
     ensures { λ r. ⌜ ((c : Chip) (end : ℕ)
         → fileAt (now (s .entry)) true 0 ≡ done c end
         → rootsAt (now (s .entry)) true «roots_at» ≡ done (c .roots) end
-        → now (keys .entry) ≡ registerKeys c
-        → now (names .entry) ≡ nodeKeys c
-        → now (places .entry) ≡ nodePlaces c
+        → referenceFaults c ≡ []
+        → TablesOf c (now (keys .entry)) (now (kinds .entry)) (now (names .entry)) (now (wanted .entry)) (now (places .entry))
         → lentTables (now (registers .exit)) (now (nodes .exit)) (now (rules .exit)) (now (children .exit)) (now (root .exit))
         ≡ filledBy attention c (lentTables (now (registers .entry)) (now (nodes .entry)) (now (rules .entry)) (now (children .entry)) (now (root .entry)))) ⌝ }
 {
     copy(keys, registers);
     copy(names, nodes);
     fill_rules(s, places, attention, rules);
-    fill_children(s, places, names, children);
+    let mut index = [0u16; tables::positions::REGISTER_PLACES];
+    enter_all(keys, &mut index);
+    let mut node_index = [0u16; tables::positions::NODE_PLACES];
+    enter_all(names, &mut node_index);
+    node_faults(
+        s,
+        places,
+        wanted,
+        &index,
+        keys,
+        kinds,
+        &node_index,
+        names,
+        children,
+    );
     let k = root_position(s, roots_at, attention, names);
     put(root, 0, k as u64);
 }
@@ -73,6 +90,7 @@ fn fill_laid(
     ensures { λ r. ⌜ ((c : Chip)
         → done (laidOut l) (l .end) ≡ layoutAt (now (s .entry)) 0
         → fileAt (now (s .entry)) true 0 ≡ done c (l .end)
+        → referenceFaults c ≡ []
         → lentTables (now (registers .exit)) (now (nodes .exit)) (now (rules .exit)) (now (children .exit)) (now (root .exit))
         ≡ filledBy attention c (lentTables (now (registers .entry)) (now (nodes .entry)) (now (rules .entry)) (now (children .entry)) (now (root .entry)))) ⌝ }
 {
@@ -85,13 +103,15 @@ fn fill_laid(
     let mut names = [0u64; format::NODE_LIMIT];
     let mut wanted = [0u64; format::NODE_LIMIT];
     let mut places = [0u64; format::NODE_LIMIT];
-    fill_nodes(s, l.nodes_at, &mut names, &mut wanted, &mut places);
+    nodes_at(s, l.nodes_at, &mut names, &mut wanted, &mut places);
     fill_lent(
         s,
         l.roots_at,
         attention,
         &keys[..m],
+        &kinds[..m],
         &names[..n],
+        &wanted[..n],
         &places[..n],
         registers,
         nodes,

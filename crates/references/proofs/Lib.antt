@@ -4,3 +4,4 @@ pub mod PartsLaws
 pub mod TablesLaws
 pub mod ScanLaws
 pub mod RootsLaws
+pub mod CapturesLaws

@@ -1,9 +1,9 @@
 -- The fault of a capture, a rule, a child and a whole node instance.
-use Prim.Native.Nat.{ℕ, _≤_, _<_}
+use Prim.Native.Nat.{ℕ, _+_, _≤_, _<_}
 use mathlib.Core.Bool.{true}
-use mathlib.Core.List.{List, [], _++_}
+use mathlib.Core.List.{List, [], _∷_, _++_}
 use mathlib.Core.Path.{_≡_, sym, _∙_}
-use lib.ListN.{length}
+use lib.ListN.{length, set}
 use borrow.Author.Tests.{lt-ltb, le-ltb}
 use Rattle.format.specs.Fields.{fieldAt}
 use Rattle.format.specs.ExpressionLayout.{exprAt}
@@ -15,9 +15,12 @@ use Rattle.format.specs.References.{unless, namedBy}
 use Rattle.format.specs.Tree.{Capture, Rule, Child, NodeInstance, Expr}
 use Rattle.tables.specs.Faults.{judgedAt, positionIn, present, registerFaultsIn, nameFaults}
 use Rattle.tables.specs.Kinds.{readableKind}
+use Rattle.tables.specs.Tables.{written}
 use Rattle.tables.proofs.FaultsLaws.{judged-stop, judged-on}
 use Rattle.index.proofs.Again.{same-done, not-refused}
 use Rattle.index.proofs.PartsLaws.{naming-id, naming-number, naming-all, capture-fields, rule-fields, child-fields, Parts, instance-parts}
+use Rattle.links.specs.Links.{childNumber, childrenPut, childless, childRow}
+use Rattle.links.proofs.ChildrenLaws.{children-small, link-next, row-put}
 use Rattle.references.specs.FaultsIn.{captureFaultsIn, ruleFaultsIn, childFaultsIn, instanceFaultsIn}
 
 -- The name of a child, found at position k of the keys of the node instances.
@@ -29,6 +32,12 @@ module _ (keys : List ℕ) (id number at next : ℕ) {k : ℕ} (e : k ≡ positi
   pub name-absent : length keys ≤ k → refused 12 at ≡ judgedAt (unless (present keys id number) 12 at) next
   unfolding judgedAt present unless
   name-absent h = simp (← e, le-ltb _ _ h)
+
+-- A child that has no fault and was written to a table: the place after it, and the table with the children to come.
+pub child-put : (nodes t : List ℕ) (at : ℕ) (k : Child) (m : ℕ) {u : List ℕ} {next : ℕ} → done tt next ≡ judgedAt (childFaultsIn nodes k) m
+    → u ≡ set t (at + k .bit) (childNumber nodes k)
+    → (next ≡ m) × ((ks : List Child) → childrenPut nodes u at ks ≡ childrenPut nodes t at (k ∷ ks))
+child-put nodes t at k m d e = (sym (judged-on (childFaultsIn nodes k) [] m (sym d) .0), link-next nodes t at k e)
 
 module _ (s : List ℕ) (at : ℕ) where
   -- A capture whose fields the code read.
@@ -127,15 +136,27 @@ module _ (s : List ℕ) (at : ℕ) where
             let j = rules-judged q in
             sym (j .1 ∙ judged-stop _ _ _ _ (sym (j .0) ∙ t))
 
-        pub instance-children : {v : Unit {0}} {f : ℕ} → z ≡ done v f → {x : Parsed (Unit {0})}
-            → ((ks : List Child) (m : ℕ) → rowAt (childAt s true) (h .children) [] f ≡ done ks m → x ≡ judgedAt (gathered (childFaultsIn nodes) ks) m)
-            → x ≡ judgedAt (instanceFaultsIn keys kinds nodes kind i) m
-        instance-children t k =
-            let q = instance-parts s at total before e in
-            let g = same-done p (q .read) in
-            let j = rules-judged q in
-            let o = judged-on (gathered (ruleFaultsIn keys kinds kind) (i .rules)) (gathered (childFaultsIn nodes) (i .children)) m (sym (j .0) ∙ t) in
-            k (i .children) m (rw (g .0, ← o .0) (q .children)) ∙ sym (j .1 ∙ o .1)
+        module _ {v : Unit {0}} {f : ℕ} (t : z ≡ done v f) where
+          -- The rules have no fault either, so that the children stand at f and decide.
+          children-judged : (rowAt (childAt s true) (h .children) [] f ≡ done (i .children) m)
+              × (judgedAt (instanceFaultsIn keys kinds nodes kind i) m ≡ judgedAt (gathered (childFaultsIn nodes) (i .children)) m)
+          children-judged =
+              let q = instance-parts s at total before e in
+              let g = same-done p (q .read) in
+              let j = rules-judged q in
+              let o = judged-on (gathered (ruleFaultsIn keys kinds kind) (i .rules)) (gathered (childFaultsIn nodes) (i .children)) m (sym (j .0) ∙ t) in
+              (rw (g .0, ← o .0) (q .children), j .1 ∙ o .1)
+
+          pub instance-children : {x : Parsed (Unit {0})}
+              → ((ks : List Child) (m : ℕ) → rowAt (childAt s true) (h .children) [] f ≡ done ks m → x ≡ judgedAt (gathered (childFaultsIn nodes) ks) m)
+              → x ≡ judgedAt (instanceFaultsIn keys kinds nodes kind i) m
+          instance-children k = let j = children-judged in k (i .children) m (j .0) ∙ sym (j .1)
+
+          -- A table whose 64 places from k on were cleared, and to which the children were then written.
+          pub instance-row : (table : List ℕ) (k : ℕ) {cleared put : List ℕ} → cleared ≡ written table k (childless 64)
+              → ((ks : List Child) (m : ℕ) → rowAt (childAt s true) (h .children) [] f ≡ done ks m → put ≡ childrenPut nodes cleared k ks)
+              → put ≡ written table k (childRow nodes i)
+          instance-row table k l w = let j = children-judged in row-put nodes table k i (children-small s (h .children) [] f (j .0)) l (w (i .children) m (j .0))
 
   pub instance-there : {B : Type 0} {w z : ℕ} → refused w z ≡ instanceHeadAt s true 0 [] at
       → (total : ℕ) (before : List NodeInstance) (i : NodeInstance) (m : ℕ) → nodeInstanceAt s true total before at ≡ done i m → B

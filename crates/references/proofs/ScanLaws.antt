@@ -3,6 +3,7 @@ use Prim.Native.Nat.{ℕ, _+_, _≤_, _<_}
 use mathlib.Core.Bool.{true}
 use mathlib.Core.List.{List, [], _∷_, _++_, map}
 use mathlib.Core.Path.{_≡_, refl, sym, _∙_, ap, subst}
+use native.Mathlib.Omega.{arith}
 use lib.ListN.{length, getD, drop}
 use Rattle.format.specs.Lookup.{gathered, NodeEntry}
 use Rattle.format.specs.NodeLayout.{nodeInstanceAt}
@@ -11,9 +12,13 @@ use Rattle.format.specs.Rules.{Every}
 use Rattle.format.specs.Tree.{NodeInstance}
 use Rattle.format.specs.References.{Fault}
 use Rattle.tables.specs.Faults.{judgedAt}
+use Rattle.tables.specs.Tables.{written}
 use Rattle.tables.proofs.ColumnLaws.{drop-first, column-first, column-none}
 use Rattle.tables.proofs.FaultsLaws.{judged-none, judged-stop, judged-on}
+use Rattle.tables.proofs.WritingLaws.{written-beyond, Writing, writing-begin, writing-next, writing-end}
 use Rattle.index.specs.Rows.{ReadAgain, entryPlace, entryWanted}
+use Rattle.links.specs.Links.{childRow}
+use Rattle.links.proofs.ChildrenLaws.{row-written}
 use Rattle.references.specs.FaultsIn.{instanceFaultsIn, entryFaultsIn}
 
 -- Those before i have no fault, so that the faults of those from i on decide.
@@ -73,3 +78,31 @@ module _ (s places wanted keys kinds nodes : List ℕ) where
       let r = f .rest es again p w in
       let n = column-none entryPlace places i (r .0) h (r .2) in
       sym (r .4 ∙ ap (λ z. judgedAt (gathered (entryFaultsIn keys kinds nodes) z) 0) n ∙ judged-none 0)
+
+-- The children of all node instances, 64 places for each: with those of the instances from i on, from place k on, the table is what it is to be.
+module _ (s places nodes : List ℕ) where
+  abbrev pub Rows : List ℕ → List ℕ → ℕ → ℕ → Type 0
+  Rows t₀ t k i = Writing (ReadAgain s) entryPlace places (λ e. childRow nodes (e .instance)) t₀ t k i
+
+  pub rows-begin : (t : List ℕ) → Rows t t 0 0
+  rows-begin t = writing-begin _ _ _ _ t
+
+  -- The children of the instance at i were written.
+  module _ {t₀ t : List ℕ} {k i : ℕ} (f : Rows t₀ t k i) (h : i < length places) {u : List ℕ}
+      (put : (total : ℕ) (before : List NodeInstance) (a : NodeInstance) (m : ℕ) → nodeInstanceAt s true total before (getD places i 0) ≡ done a m → u ≡ written t k (childRow nodes a)) where
+    pub rows-next : Rows t₀ u (k + 64) (i + 1)
+    rows-next = writing-next _ _ _ _ f h (λ e a q. row-written nodes t k (e .instance) (put 0 [] (e .instance) (a .next) (rw q (a .read))))
+
+    -- A table that is full is so from the same place on.
+    pub rows-full : length u ≤ k → Rows t₀ u k (i + 1)
+    rows-full l =
+        record {
+          rest = λ es a e.
+              let r = rows-next .rest es a e in
+              let ys = gathered (λ e. childRow nodes (e .instance)) (r .0) in
+              (r .0, r .1, r .2, written-beyond u k ys l ∙ sym (written-beyond u (k + 64) ys (omega arith)) ∙ r .3);
+        }
+
+  pub rows-end : {t₀ t : List ℕ} {k i : ℕ} → Rows t₀ t k i → length places ≤ i → (es : List NodeEntry) → Every (ReadAgain s) es → places ≡ map entryPlace es
+      → t ≡ written t₀ 0 (gathered (λ e. childRow nodes (e .instance)) es)
+  rows-end f h = writing-end _ _ _ _ f h

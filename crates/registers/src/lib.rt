@@ -10,6 +10,7 @@ use fields::flags_at;
 use fields::keyword_at;
 use fields::number_at;
 use fields::number_count_at;
+use fields::seen::enter_ids;
 use fields::seen::instance_number_at;
 use fields::seen::is_new;
 use fields::seen::larger;
@@ -17,6 +18,7 @@ use fields::type_at;
 use format::Kind;
 use format::Refusal;
 use numbers::Width;
+use tables::positions::REGISTER_PLACES;
 ghost use Prim.Native.Nat.{ℕ, _+_};
 ghost use mathlib.Core.Bool.{true};
 ghost use mathlib.Core.List.{List, [], map};
@@ -26,6 +28,7 @@ ghost use Rattle.format.specs.Fields.{fieldAt, addressSize};
 ghost use Rattle.format.specs.Parsed.{making, requiring, rowAt};
 ghost use Rattle.format.specs.Tree.{RegisterInstance, Register};
 ghost use Rattle.format.specs.RegisterLayout.{registerTotal, registerInstanceAt, registerHeadAt, registerAt, registersAt};
+ghost use Rattle.tables.specs.Indexed.{Indexed};
 ghost use Rattle.fields.specs.Seen.{unmarked, newAfter, Tells};
 ghost use Rattle.registers.specs.Registers.{registerFlagsAt};
 ghost use Rattle.fields.specs.Views.{byteParsed, numberParsed, nextParsed, elementParsed, countParsed, sectionParsed, forget};
@@ -100,14 +103,22 @@ fn register_instances_at(s: &[u8], at: usize, kind: u8, count: u8, total: usize)
     NextRead::Next(place)
 }
 
-// The ID of a register: none of those before it, each of which is at most `largest`.
-fn register_id_at(s: &[u8], at: usize, ids: &[u64], largest: u64) -> NumberRead
-    ensures { λ r. ⌜ numberParsed r ≡ requiring (newAfter largest (now (ids .entry))) 7 at (fieldAt (now (s .entry)) at 3) ⌝ }
+// The ID of a register: none of those before it, each of which is at most `largest`, and the first `entered` are entered in an index.
+fn register_id_at(
+    s: &[u8],
+    at: usize,
+    ids: &[u64],
+    index: &[u16],
+    entered: usize,
+    largest: u64,
+) -> NumberRead
+    ensures { λ r. ⌜ (Indexed (now (index .entry)) (now (ids .entry)) entered
+        → numberParsed r ≡ requiring (newAfter largest (now (ids .entry))) 7 at (fieldAt (now (s .entry)) at 3)) ⌝ }
 {
     let i = number_at(s, at, Width::Three);
     match i {
         NumberRead::Number(id, next) => {
-            if !is_new(ids, largest, id) {
+            if !is_new(ids, index, entered, largest, id) {
                 return NumberRead::Refused(Refusal {
                     kind: Kind::Duplicate,
                     place: at,
@@ -144,13 +155,21 @@ fn register_flags_at(s: &[u8], at: usize, id: u64, kind: u8) -> RegisterHeadRead
     }
 }
 
-// What a register starts with; `ids` are the IDs of the registers before it, each at most `largest`.
-pub fn register_head_at(s: &[u8], at: usize, ids: &[u64], largest: u64) -> RegisterHeadRead
-    ensures { λ r. ⌜ ((numbers : List ℕ)
+// What a register starts with; `ids` are the IDs of the registers before it, each at most `largest`, and the first `entered` are entered in an index.
+pub fn register_head_at(
+    s: &[u8],
+    at: usize,
+    ids: &[u64],
+    index: &[u16],
+    entered: usize,
+    largest: u64,
+) -> RegisterHeadRead
+    ensures { λ r. ⌜ (Indexed (now (index .entry)) (now (ids .entry)) entered
+        → (numbers : List ℕ)
         → Tells (newAfter largest (now (ids .entry))) numbers
         → registerHeadParsed r ≡ registerHeadAt (now (s .entry)) true numbers at) ⌝ }
 {
-    let i = register_id_at(s, at, ids, largest);
+    let i = register_id_at(s, at, ids, index, entered, largest);
     match i {
         NumberRead::Number(id, a) => {
             let t = type_at(s, a);
@@ -163,14 +182,24 @@ pub fn register_head_at(s: &[u8], at: usize, ids: &[u64], largest: u64) -> Regis
     }
 }
 
-// A register: its ID and how many instances it has. `ids` are the IDs of the registers before it, each at most `largest`, and `total` is how many instances these registers have.
-fn register_at(s: &[u8], at: usize, ids: &[u64], largest: u64, total: usize) -> ElementRead
-    ensures { λ r. ⌜ ((before : List Register)
+// A register: its ID and how many instances it has. `ids` are the IDs of the registers before it, each at most `largest`, and the first `entered` are entered in an index; `total` is
+// how many instances these registers have.
+fn register_at(
+    s: &[u8],
+    at: usize,
+    ids: &[u64],
+    index: &[u16],
+    entered: usize,
+    largest: u64,
+    total: usize,
+) -> ElementRead
+    ensures { λ r. ⌜ (Indexed (now (index .entry)) (now (ids .entry)) entered
+        → (before : List Register)
         → Tells (newAfter largest (now (ids .entry))) (map registerId before)
         → total ≡ registerTotal before
         → elementParsed r ≡ making registerElement (registerAt (now (s .entry)) true before at)) ⌝ }
 {
-    let top = register_head_at(s, at, ids, largest);
+    let top = register_head_at(s, at, ids, index, entered, largest);
     match top {
         RegisterHeadRead::Head(h, a) => {
             let id = h.id;
@@ -185,21 +214,24 @@ fn register_at(s: &[u8], at: usize, ids: &[u64], largest: u64, total: usize) -> 
     }
 }
 
-// So many registers: how many instances they have. It reads each register once, and looks for its ID among those before it only where it is not above all of them.
+// So many registers: how many instances they have. It reads each register once, and enters the IDs in an index once one is not above `largest`, which is 0 before the first.
 fn register_rows_at(s: &[u8], at: usize, n: u64) -> CountRead
     ensures { λ r. ⌜ countParsed r ≡ making registerTotal (rowAt (registerAt (now (s .entry)) true) n [] at) ⌝ }
 {
     let mut ids = [0u64; format::REGISTER_LIMIT];
+    let mut index = [0u16; REGISTER_PLACES];
     let mut known = 0;
+    let mut entered = 0;
     let mut largest = 0;
     let mut total = 0;
     let mut left = n;
     let mut place = at;
     while 0 < left {
-        let e = register_at(s, place, &ids[..known], largest, total);
+        let e = register_at(s, place, &ids[..known], &index, entered, largest, total);
         match e {
             ElementRead::Element(id, count, next) => {
                 ids[known] = id;
+                entered = enter_ids(&ids[..known + 1], &mut index, entered, largest, id);
                 largest = larger(largest, id);
                 total += count as usize;
                 place = next;

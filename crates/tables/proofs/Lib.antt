@@ -5,3 +5,4 @@ pub mod FaultsLaws
 pub mod KeysLaws
 pub mod KindsLaws
 pub mod WritingLaws
+pub mod IndexedLaws

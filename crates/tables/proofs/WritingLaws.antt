@@ -11,7 +11,8 @@ use Rattle.tables.specs.Tables.{written}
 use Rattle.tables.proofs.ColumnLaws.{column-first, column-none}
 use Rattle.tables.proofs.TablesLaws.{written-append}
 
-written-beyond : (t : List ℕ) (k : ℕ) (xs : List ℕ) → length t ≤ k → written t k xs ≡ t
+-- What is written from behind the end of a table is not there.
+pub written-beyond : (t : List ℕ) (k : ℕ) (xs : List ℕ) → length t ≤ k → written t k xs ≡ t
 unfolding written
 written-beyond t k [] h = refl
 written-beyond t k (x ∷ xs) h = ap (λ u. written u (suc k) xs) (set-out t k x h) ∙ written-beyond t (suc k) xs (omega arith)
@@ -47,10 +48,6 @@ module _ {A : Type 0} (P : A → Type 0) (value : A → ℕ) (values : List ℕ)
         let r = f .rest es a e in
         let d = column-none value values i (r .0) h (r .2) in
         ap (λ z. written t k (gathered row z)) (sym d) ∙ r .3
-
-    -- A table that is full.
-    pub writing-full : length t ≤ k → (es : List A) → Every P es → values ≡ map value es → t ≡ written t₀ 0 (gathered row es)
-    writing-full h es a e = let r = f .rest es a e in sym (written-beyond t k (gathered row (r .0)) h) ∙ r .3
 
 -- One number for each element.
 pub one-written : (t : List ℕ) (k : ℕ) {u : List ℕ} {x y : ℕ} → u ≡ set t k x → x ≡ y → (u ≡ written t k (y ∷ [])) × (k + 1 ≡ k + length (y ∷ []))

@@ -3,3 +3,4 @@ pub mod Tables
 pub mod Keys
 pub mod Kinds
 pub mod Faults
+pub mod Indexed

@@ -6,6 +6,8 @@ ghost use Rattle.format.specs.Lookup.{position};
 ghost use Rattle.tables.specs.Faults.{positionIn};
 ghost use Rattle.tables.specs.Tables.{keyOf, written};
 
+pub mod positions;
+
 // What the name of a register instance or a node instance is kept as: its ID and its number in one.
 pub fn key(id: u64, number: u8) -> u64
     ensures { λ r. ⌜ r ≡ keyOf id number ⌝ }

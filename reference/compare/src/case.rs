@@ -29,9 +29,10 @@ impl Case {
         let start = Random::new(Random::new(seed).next() ^ number).next();
         let random = &mut Random::new(start);
         let mut isolation = match random.below(100) {
-            0..=38 => generate::case(random),
-            39 => generate::full_list_case(random),
-            40..=89 => {
+            0..=12 => generate::colliding_case(random),
+            13..=44 => generate::case(random),
+            45 => generate::full_list_case(random),
+            46..=89 => {
                 let aim = random.between(0, HIGHEST_NUMBER.into()) as u8;
                 generate::aimed_case(random, aim, Sizes::Any)
             }
@@ -263,6 +264,10 @@ fn register_name(random: &mut Random, file: &[u8]) -> (u64, u8) {
         3 => id = random.next() & 0x00FF_FFFF,
         4 => instance = random.byte(),
         5 => instance = instance.wrapping_add(1),
+        6 => {
+            let name = generate::name_like(random, id as u32, instance);
+            (id, instance) = (u64::from(name.0), name.1);
+        }
         _ => {}
     }
     (id, instance)

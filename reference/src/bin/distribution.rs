@@ -1,11 +1,13 @@
 //! Prints how often each outcome occurs among seeded cases.
 //!
-//! Usage: distribution [CASES [SEED]]
+//! Usage: distribution [--colliding] [CASES [SEED]]
+//!
+//! With --colliding the cases are those whose IDs and names collide.
 
 use std::env;
 use std::process::ExitCode;
 
-use reference::generate::{self, Random};
+use reference::generate::{self, Case, Crowd, Random};
 use reference::{bits_above_silent, isolate, reached_words, refusal};
 
 const HIGHEST_NUMBER: usize = 19;
@@ -55,14 +57,68 @@ impl Words {
     }
 }
 
+/// The kinds of numbers that collide.
+const NUMBERS: [&str; 4] = ["register-ids", "register-names", "node-ids", "node-names"];
+
+/// How many files have so many colliding numbers, of any kind and of each kind.
+#[derive(Default)]
+struct Collisions {
+    files: u64,
+    bytes: u64,
+    longest: usize,
+    /// At least two, four and 33 that start at one place, and one without a place.
+    any: [u64; 4],
+    of_kind: [[u64; 4]; NUMBERS.len()],
+}
+
+impl Collisions {
+    fn add(&mut self, file: &[u8], crowds: [Crowd; NUMBERS.len()]) {
+        self.files += 1;
+        self.bytes += file.len() as u64;
+        self.longest = self.longest.max(file.len());
+        let mut any = [false; 4];
+        for (crowd, counts) in crowds.iter().zip(&mut self.of_kind) {
+            let is_so = [
+                crowd.most_at_one_start >= 2,
+                crowd.most_at_one_start >= 4,
+                crowd.most_at_one_start >= 33,
+                crowd.without_place > 0,
+            ];
+            for at in 0..4 {
+                counts[at] += u64::from(is_so[at]);
+                any[at] |= is_so[at];
+            }
+        }
+        for (count, is_so) in self.any.iter_mut().zip(any) {
+            *count += u64::from(is_so);
+        }
+    }
+
+    fn print(&self) {
+        let average = self.bytes / self.files.max(1);
+        println!("file-bytes average {average} longest {}", self.longest);
+        let kinds = NUMBERS.iter().zip(self.of_kind);
+        for (name, [two, four, many, without]) in [(&"any", self.any)].into_iter().chain(kinds) {
+            println!(
+                "files-with {name} two-alike {two} four-alike {four} 33-alike {many} without-place {without}"
+            );
+        }
+    }
+}
+
 fn main() -> ExitCode {
-    let numbers: Option<Vec<u64>> = env::args().skip(1).map(|text| text.parse().ok()).collect();
+    let mut arguments: Vec<String> = env::args().skip(1).collect();
+    let is_colliding = arguments
+        .first()
+        .is_some_and(|first| first == "--colliding");
+    arguments.drain(..usize::from(is_colliding));
+    let numbers: Option<Vec<u64>> = arguments.iter().map(|text| text.parse().ok()).collect();
     let (cases, seed) = match numbers.as_deref() {
         Some([]) => (100_000, 1),
         Some([cases]) => (*cases, 1),
         Some([cases, seed]) => (*cases, *seed),
         _ => {
-            eprintln!("usage: distribution [CASES [SEED]]");
+            eprintln!("usage: distribution [--colliding] [CASES [SEED]]");
             return ExitCode::FAILURE;
         }
     };
@@ -73,8 +129,18 @@ fn main() -> ExitCode {
     let mut above_silent = [0u64; HIGHEST_NUMBER + 1];
     let mut refused = [0u64; HIGHEST_NUMBER + 1];
     let mut reached = Words::default();
+    let mut collisions = Collisions::default();
+    let mut next_case = || -> Case {
+        if !is_colliding {
+            return generate::case(&mut random);
+        }
+        let map = generate::colliding_file(&mut random);
+        let case = generate::case_of(&mut random, &map);
+        collisions.add(&case.file, generate::crowds(&map));
+        case
+    };
     for _ in 0..cases {
-        let case = generate::case(&mut random);
+        let case = next_case();
         let mut list = vec![0; case.room];
         let answer = isolate(
             &case.file,
@@ -99,6 +165,9 @@ fn main() -> ExitCode {
 
     let after_check: u64 = refused[15..].iter().sum();
     println!("cases {cases} seed {seed}");
+    if is_colliding {
+        collisions.print();
+    }
     println!("accepted {}", isolated + after_check);
     println!("isolated {isolated} with-records {with_records}");
     println!(

@@ -317,7 +317,7 @@ fn bad_expression(random: &mut Random, map: &FieldMap, bytes: &mut Vec<u8>) {
 }
 
 /// Points child entries to node instances of any place, mostly earlier ones.
-fn turn_children_back(random: &mut Random, map: &FieldMap, bytes: &mut [u8]) {
+pub(super) fn turn_children_back(random: &mut Random, map: &FieldMap, bytes: &mut [u8]) {
     let mut names: Vec<[u8; 3]> = Vec::new();
     let mut entries = Vec::new();
     let mut id = [0, 0];

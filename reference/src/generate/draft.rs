@@ -196,11 +196,27 @@ impl Shape {
 /// instances are within the limits. Captures, children and expressions become
 /// fewer where the file would be too long.
 pub fn valid_file(random: &mut Random, shape: &Shape) -> FieldMap {
+    short_enough(shape, |shape| Draft::new(random, shape).written())
+}
+
+/// The same with these registers and nodes, which have as many instances as the
+/// shape.
+pub(super) fn file_with(
+    random: &mut Random,
+    shape: &Shape,
+    registers: &[Register],
+    nodes: &[Node],
+) -> FieldMap {
+    short_enough(shape, |shape| {
+        Draft::with(random, shape, registers.to_vec(), nodes.to_vec()).written()
+    })
+}
+
+/// The first file that is not too long, of the shape or a poorer one.
+fn short_enough(shape: &Shape, mut written: impl FnMut(Shape) -> FieldMap) -> FieldMap {
     let mut shape = *shape;
     loop {
-        let mut draft = Draft::new(random, shape);
-        draft.write();
-        let map = draft.map;
+        let map = written(shape);
         if map.bytes.len() <= MAX_FILE_BYTES {
             return map;
         }
@@ -208,17 +224,19 @@ pub fn valid_file(random: &mut Random, shape: &Shape) -> FieldMap {
     }
 }
 
-struct Register {
-    id: u32,
-    register_type: u8,
-    flags: u8,
-    numbers: Vec<u8>,
+#[derive(Clone)]
+pub(super) struct Register {
+    pub id: u32,
+    pub register_type: u8,
+    pub flags: u8,
+    pub numbers: Vec<u8>,
 }
 
-struct Node {
-    id: u16,
-    register_type: u8,
-    numbers: Vec<u8>,
+#[derive(Clone)]
+pub(super) struct Node {
+    pub id: u16,
+    pub register_type: u8,
+    pub numbers: Vec<u8>,
 }
 
 /// A register instance with its register's type.
@@ -256,6 +274,16 @@ struct Draft<'a> {
 impl<'a> Draft<'a> {
     fn new(random: &'a mut Random, shape: Shape) -> Self {
         let registers = registers(random, shape.register_instances);
+        let nodes = nodes(random, shape.node_instances);
+        Self::with(random, shape, registers, nodes)
+    }
+
+    fn with(
+        random: &'a mut Random,
+        shape: Shape,
+        registers: Vec<Register>,
+        nodes: Vec<Node>,
+    ) -> Self {
         let readable = registers
             .iter()
             .filter(|register| register.flags & READABLE != 0)
@@ -267,7 +295,6 @@ impl<'a> Draft<'a> {
                 })
             })
             .collect();
-        let nodes = nodes(random, shape.node_instances);
         let node_instances = node_instances(random, &nodes, &shape);
         let mut by_rank: Vec<usize> = (0..node_instances.len()).collect();
         by_rank.sort_by_key(|&position| node_instances[position].rank);
@@ -281,6 +308,11 @@ impl<'a> Draft<'a> {
             by_rank,
             map: FieldMap::default(),
         }
+    }
+
+    fn written(mut self) -> FieldMap {
+        self.write();
+        self.map
     }
 
     fn write(&mut self) {
@@ -571,7 +603,7 @@ fn child(random: &mut Random, later: &[usize], before: Option<usize>) -> usize {
 }
 
 /// Instance counts of 1 to 255 that make `total`.
-fn split(random: &mut Random, total: usize) -> Vec<usize> {
+pub(super) fn split(random: &mut Random, total: usize) -> Vec<usize> {
     let most = *random.pick(&[1, 2, 4, 16, 255]);
     let mut counts = Vec::new();
     let mut left = total;

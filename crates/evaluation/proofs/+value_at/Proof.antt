@@ -7,6 +7,7 @@ use borrow.Fn.PlainCycle.{Measures, is, falls, and}
 use Rattle.format.specs.ExpressionLayout.{exprAt}
 use Rattle.format.specs.Parsed.{done}
 use Rattle.format.specs.Tree.{Expr}
+use Rattle.tables.specs.Indexed.{IndexOf}
 use Rattle.evaluation.specs.Value.{wordIn, unreadIn}
 use Rattle.expressions.proofs.HeadLaws.{open-level}
 use Rattle.expressions.proofs.arity.Reads as arity-reads
@@ -22,23 +23,23 @@ use Rattle.evaluation.proofs.plain_value.Reads as plain-value-reads
 use Rattle.evaluation.proofs.+value_at.{statement}
 use Rattle.evaluation.proofs.+value_at.Tie.{close}
 
-abbrev μ-value-at : Measures 4 value-at-kinds.ps ℕ
+abbrev μ-value-at : Measures 5 value-at-kinds.ps ℕ
 μ-value-at κs a = a .1 .1 .0
 
-abbrev value-at-at : ℕ → In 4 value-at-kinds.ps
-value-at-at t = and 4 value-at-kinds.ps (is 4 value-at-kinds.ps μ-value-at t) value-at.Pre
+abbrev value-at-at : ℕ → In 5 value-at-kinds.ps
+value-at-at t = and 5 value-at-kinds.ps (is 5 value-at-kinds.ps μ-value-at t) value-at.Pre
 
-abbrev value-at-below : ℕ → In 4 value-at-kinds.ps
-value-at-below t = and 4 value-at-kinds.ps (falls 4 value-at-kinds.ps _<_ μ-value-at t) value-at.Pre
+abbrev value-at-below : ℕ → In 5 value-at-kinds.ps
+value-at-below t = and 5 value-at-kinds.ps (falls 5 value-at-kinds.ps _<_ μ-value-at t) value-at.Pre
 
 abbrev value-at-Inv-loop : value-at-lts.InvT-loop
-value-at-Inv-loop s at levels keys words read h start ahead₀ v₀ ahead v =
+value-at-Inv-loop s at levels index keys words read h start ahead₀ v₀ ahead v =
     (0 < levels)
-    × ((e : Expr) (m : ℕ) → exprAt s levels at ≡ done e m
+    × (IndexOf index keys → (e : Expr) (m : ℕ) → exprAt s levels at ≡ done e m
     → Ahead (exprAt s (levels - 1)) ahead (v .next) m (Pending levels (wordIn keys words) (unreadIn keys read) h v e))
 
 abbrev value-at-μ-loop : value-at-lts.MeasureT-loop
-value-at-μ-loop s at levels keys words read h start ahead₀ v₀ ahead v = ahead
+value-at-μ-loop s at levels index keys words read h start ahead₀ v₀ ahead v = ahead
 
 abbrev calls : ℕ → value-at-lts.Claims
 calls t = (
@@ -67,7 +68,7 @@ pub +value-at-spec : {M : Type 1} → statement M
     (λ c.
     let d = c .before .before .before .before .before in (
       search (needs, open-level),
-      λ e m i. value-head _ _ _ _ _ _ (search (needs, open-level)) (d .head-at .ensures) (c .before .before .before .top .given .1) (c .before .arity .ensures) (c .own-value .ensures) i,
+      λ j e m i. value-head _ _ _ _ _ _ (search (needs, open-level)) (d .head-at .ensures) (c .before .before .before .top .given .1) (c .before .arity .ensures) (c .own-value .ensures j) i,
     ))
     (λ c. search needs)
     (λ c κs. (omega arith, tt))
@@ -77,9 +78,9 @@ pub +value-at-spec : {M : Type 1} → statement M
     (λ c.
     let l = c .before .before .before .loop in (
       l .inv .0,
-      λ e m i. value-more _ _ _ _ _ _ (l .inv .1 e m i) (c .before .before .loop-test .taken) (c .before .value-at .ensures) (c .joined .ensures),
+      λ j e m i. value-more _ _ _ _ _ _ (l .inv .1 j e m i) (c .before .before .loop-test .taken) (c .before .value-at .ensures j) (c .joined .ensures),
     ))
     (λ c. search needs)
     (λ c κs. search needs)
-    (λ c. λ e m i. value-end _ _ _ _ _ _ (c .before .loop .inv .1 e m i) (c .loop-test .left))
-    (λ c. λ e m i. headless _ _ _ (c .before .before .before .head-at .ensures) (c .before .enum-told .given .1) i)
+    (λ c. λ j e m i. value-end _ _ _ _ _ _ (c .before .loop .inv .1 j e m i) (c .loop-test .left))
+    (λ c. λ j e m i. headless _ _ _ (c .before .before .before .head-at .ensures) (c .before .enum-told .given .1) i)

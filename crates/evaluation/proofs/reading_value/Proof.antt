@@ -11,7 +11,7 @@ reading-value-spec =
     (λ c κs. search needs)
     (λ c κs. search needs)
     (λ c κs. search needs)
-    (λ c.
-    own-read _ _ _ _ _ _ _ (c .before .before .before .name-position .ensures) (c .before .before .entry .ensures) (omega arith) (c .before .is-read .ensures) (c .if1 .taken))
-    (λ c.
-    own-unread _ _ _ _ _ _ _ (c .before .before .before .name-position .ensures) (c .before .before .entry .ensures) (omega arith) (c .before .is-read .ensures) (c .if1 .left)))
+    (λ c. λ i.
+    own-read _ _ _ _ _ _ _ (c .before .before .before .find-name .ensures i) (c .before .before .entry .ensures) (omega arith) (c .before .is-read .ensures) (c .if1 .taken))
+    (λ c. λ i.
+    own-unread _ _ _ _ _ _ _ (c .before .before .before .find-name .ensures i) (c .before .before .entry .ensures) (omega arith) (c .before .is-read .ensures) (c .if1 .left)))

@@ -6,6 +6,7 @@ use borrow.Author.Needs.{needs}
 use lib.ListN.{length}
 use Rattle.tables.specs.Tables.{written}
 use Rattle.links.specs.Links.{childless}
+use Rattle.tables.proofs.WritingLaws.{written-beyond}
 use Rattle.links.proofs.ChildrenLaws.{cleared-next, cleared-end}
 use Rattle.links.proofs.clear.Statement.{statement}
 use Rattle.links.proofs.clear.Tie as tie
@@ -17,14 +18,17 @@ Inv-loop child₀ k n left₀ place₀ child left place =
 abbrev μ-loop : tie.MeasureT-loop
 μ-loop child₀ k n left₀ place₀ child left place = left
 
+returns : tie.Need-returns Inv-loop μ-loop
+returns c = sym (written-beyond _ _ _ (c .if1 .taken))
+
 loop-holds : tie.Need-loop-holds Inv-loop μ-loop
 loop-holds c = (refl, refl, refl)
 
 add-place : tie.Need-add-place Inv-loop μ-loop
 add-place c =
     let l = c .before .before .before .before .before in
-    let b = l .before .before in
-    omega (arith, l .loop .inv .0, b .pre, b .good .0 .1, b .fits .n)
+    let b = l .before .before .before in
+    omega (arith, l .loop .inv .0, l .before .if1 .left, b .good .0 .1, b .fits .n)
 
 loop-again : tie.Need-loop-again Inv-loop μ-loop
 loop-again c =
@@ -38,8 +42,8 @@ loop-again c =
 same-length : tie.Need-same-length Inv-loop μ-loop
 same-length c = c .before .loop .inv .1
 
-returns : tie.Need-returns Inv-loop μ-loop
-returns c = sym (cleared-end _ _ _ (c .loop-test .left)) ∙ c .before .loop .inv .2
+returns-2 : tie.Need-returns-2 Inv-loop μ-loop
+returns-2 c = sym (cleared-end _ _ _ (c .loop-test .left)) ∙ c .before .loop .inv .2
 
 pub clear-spec : {M : Type 1} → statement M
 clear-spec =
@@ -47,6 +51,7 @@ clear-spec =
     (tie.spec
     Inv-loop
     μ-loop
+    returns
     loop-holds
     (λ c κs. search needs)
     add-place
@@ -54,4 +59,4 @@ clear-spec =
     (λ c. search needs)
     loop-again
     same-length
-    returns)
+    returns-2)

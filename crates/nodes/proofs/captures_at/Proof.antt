@@ -1,33 +1,18 @@
--- The invariant: those that are left decide.
-use mathlib.Core.List.{[]}
-use mathlib.Core.Path.{_≡_, refl, ap}
+use Prim.Native.Nat.{_*_, _-_, _≤_}
+use native.Mathlib.Omega.{arith}
 use borrow.Author.Needs.{needs}
-use Rattle.format.specs.Parsed.{rowAt}
-use Rattle.format.specs.NodeLayout.{captureAt}
-use Rattle.fields.specs.Views.{forget}
-use Rattle.expressions.proofs.HeadLaws.{down-none, down-no, down-more}
-use Rattle.nodes.proofs.NodeLaws.{captures-blind}
+use borrow.Author.Tests.{leb-true}
+use lib.ListN.{length}
+use Rattle.nodes.proofs.NodeLaws.{captures-there}
 use Rattle.nodes.proofs.captures_at.Statement.{statement}
 use Rattle.nodes.proofs.captures_at.Tie as tie
 
-abbrev Inv-loop : tie.InvT-loop
-Inv-loop s at n left₀ place₀ left place = forget (rowAt (captureAt s) n [] at) ≡ forget (rowAt (λ before. captureAt s []) left [] place)
-
-abbrev μ-loop : tie.MeasureT-loop
-μ-loop s at n left₀ place₀ left place = left
+returns : tie.Need-returns
+returns c =
+    let a = c .before .before .before .args in
+    let h : a .at ≤ length (a .s .now) = c .before .if1 .taken in
+    let k : a .n * 4 ≤ length (a .s .now) - a .at = leb-true _ _ (c .if2 .taken) in
+    captures-there _ _ _ _ (omega arith) (omega arith)
 
 pub captures-at-spec : {M : Type 1} → statement M
-captures-at-spec =
-    tie.close
-    (tie.spec
-    Inv-loop
-    μ-loop
-    (λ c. ap forget (captures-blind _ _ _))
-    (λ c κs. search needs)
-    (λ c. search needs)
-    (λ c. search needs)
-    (λ c. down-no _ _ _ (c .before .before .before .before .before .loop .inv) (c .before .before .before .capture-at .ensures) (c .before .c2 .given .1) (c .before .before .before .before .loop-test .taken) refl)
-    (λ c. search needs)
-    (λ c. search needs)
-    (λ c. down-more _ _ _ (c .before .before .before .before .before .loop .inv) (c .before .before .before .capture-at .ensures) (c .before .c .given .1) (c .before .before .before .before .loop-test .taken))
-    (λ c. down-none _ _ _ (c .before .loop .inv) (c .loop-test .left) refl))
+captures-at-spec = tie.close (tie.spec (λ c. search needs) (λ c. search needs) (λ c. search needs) returns (λ c κs. search needs) (λ c. search needs))

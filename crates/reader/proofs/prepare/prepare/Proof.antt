@@ -4,6 +4,7 @@ use Rattle.format.proofs.Acceptance.{verdict-out, verdict-meets}
 use Rattle.reader.specs.Layout.{layoutParsed}
 use Rattle.reader.proofs.AddressLaws.{accepted, not-accepted, check-accepted}
 use Rattle.reader.proofs.FaultsLaws.{laid, within-limits}
+use Rattle.reader.proofs.NameLaws.{empty-left}
 use Rattle.reader.proofs.PreparedLaws.{prepared-refused, prepared-short, prepared-filled}
 use Rattle.reader.proofs.prepare.prepare.Statement.{statement}
 use Rattle.reader.proofs.prepare.prepare.Tie as tie
@@ -33,7 +34,7 @@ returns c =
     prepared-filled _ _ _ (a .1) (d .registerCount) (d .nodeCount) (p3 .has-room .ensures)
     (verdict-meets _ (λ i. p6 .shared-slice-known .given i .fits) (a .1))
     (p2 .if1 .taken)
-    (p1 .fill-laid .ensures (a .0) y f)
+    (p1 .fill-laid .ensures (a .0) y f (empty-left _ _ (verdict-out _ (a .1) .faultless)))
     (c .summary .ensures ∙ check-accepted _ (ap layoutParsed e) (x .0))
 
 returns-2 : tie.Need-returns-2

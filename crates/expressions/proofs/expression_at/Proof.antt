@@ -1,0 +1,12 @@
+use borrow.Author.Needs.{needs}
+use Rattle.expressions.proofs.expression_at.Statement.{statement}
+use Rattle.expressions.proofs.expression_at.Tie as tie
+
+pub expression-at-spec : {M : Type 1} → statement M
+expression-at-spec =
+    tie.close
+    (tie.spec
+    (λ c κs. search needs)
+    (λ c. c .before .end-of .ensures (c .if1 .taken))
+    (λ c κs. search needs)
+    (λ c. search needs))

@@ -1,0 +1,13 @@
+use borrow.Author.Needs.{needs}
+use Rattle.naming.proofs.FitLaws.{key-found, key-missed}
+use Rattle.naming.proofs.key_fits.Statement.{statement}
+use Rattle.naming.proofs.key_fits.Tie as tie
+
+pub key-fits-spec : {M : Type 1} → statement M
+key-fits-spec =
+    tie.close
+    (tie.spec
+    (λ c κs. search needs)
+    (λ c κs. search needs)
+    (λ c. λ i. key-found _ _ _ _ (c .before .before .find .ensures i) (c .before .if1 .taken) (c .entry .ensures))
+    (λ c. λ i. key-missed))

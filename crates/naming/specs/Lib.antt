@@ -1,0 +1,2 @@
+-- Registers that fit.
+pub mod Fits
