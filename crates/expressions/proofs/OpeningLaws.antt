@@ -9,7 +9,7 @@ use lib.ListN.{length, getD}
 use lib.Seq.{drop-cons}
 use Rattle.numbers.specs.BigEndian.{bigEndian}
 use Rattle.numbers.specs.Field.{field}
-use Rattle.numbers.proofs.FieldLaws.{present-yes, field-byte}
+use Rattle.numbers.proofs.FieldLaws.{field-byte}
 use Rattle.format.specs.Parsed.{Parsed, done, andThen, require, requiring, rowAt}
 use Rattle.format.proofs.ParsedLaws.{then-in, making-in}
 use Rattle.format.specs.Fields.{fieldAt}
@@ -17,6 +17,7 @@ use Rattle.format.specs.ExpressionLayout.{operationOf, exprAt}
 use Rattle.fields.specs.declared.NextRead
 use Rattle.fields.specs.declared.NextRead.{NextRead}
 use Rattle.fields.specs.Views.{forget}
+use Rattle.fields.proofs.FieldLaws.{field-there}
 use Rattle.expressions.specs.declared.Head.{Head}
 use Rattle.expressions.specs.Heads.{arityOf, readingHeadAt, operandCountAt, shiftAt, operationHeadAt, headAt}
 use Rattle.expressions.specs.Names.{ownNames}
@@ -24,12 +25,8 @@ use Rattle.expressions.specs.Openings.{readingOf, Opening}
 use Rattle.expressions.proofs.HeadLaws.{open-level, open-row, down-more}
 
 module _ (s : List ℕ) where
-  field-there : (at n : ℕ) → at + n ≤ length s → fieldAt s at n ≡ done (field s at n) (at + n)
-  unfolding fieldAt require
-  field-there at n h = rw (present-yes s at n h)
-
   byte-there : (at : ℕ) → at < length s → fieldAt s at 1 ≡ done (getD s at 0) (at + 1)
-  byte-there at h = let k : at + 1 ≤ length s = omega arith in rw (← field-byte s at h) (field-there at 1 k)
+  byte-there at h = let k : at + 1 ≤ length s = omega arith in rw (← field-byte s at h) (field-there s at 1 k)
 
   field-three : (at : ℕ) → at + 3 ≤ length s → field s at 3 ≡ getD s at 0 * 0x10000 + getD s (suc at) 0 * 0x100 + getD s (suc (suc at)) 0
   unfolding field bigEndian
@@ -40,7 +37,7 @@ module _ (s : List ℕ) where
   three-there at h =
       let i : at + 2 ≡ suc (at + 1) = omega arith in
       let j : at + 3 ≡ suc (suc (at + 1)) = omega arith in
-      rw (i, j, ← field-three (at + 1) h) (field-there (at + 1) 3 h)
+      rw (i, j, ← field-three (at + 1) h) (field-there s (at + 1) 3 h)
 
   -- A byte that has to be at least so much, and is.
   enough : (at k : ℕ) → at < length s → k ≤ getD s at 0 → requiring (leb k) 9 at (fieldAt s at 1) ≡ done (getD s at 0) (at + 1)

@@ -9,9 +9,13 @@ use Rattle.expressions.specs.declared.Head.the-variants.{Reading}
 use Rattle.expressions.specs.Heads.{arityOf, headAt}
 use Rattle.expressions.specs.Names.{ownNames}
 
--- The head of a reading whose type byte stands at a place: an ID of three bytes and a number of one.
+-- The ID that a reading names whose type byte stands at a place: the three bytes after it.
+abbrev pub idIn : List ℕ → ℕ → ℕ
+idIn s at = getD s (at + 1) 0 * 0x10000 + getD s (at + 2) 0 * 0x100 + getD s (at + 3) 0
+
+-- The head of that reading: the ID, and a number of one byte.
 abbrev pub readingOf : List ℕ → ℕ → Head
-readingOf s at = Reading (getD s (at + 1) 0 * 0x10000 + getD s (at + 2) 0 * 0x100 + getD s (at + 3) 0) (getD s (at + 4) 0)
+readingOf s at = Reading (idIn s at) (getD s (at + 4) 0)
 
 -- The head at a place has r / 256 bytes, all of them there, and r % 256 operands. Only a reading has five bytes, and only a reading names a register.
 pub record Opening (s : List ℕ) (levels at r : ℕ) : Type 0 where

@@ -4,7 +4,7 @@ use mathlib.Core.Path.{_≡_, refl, sym, _∙_, ap}
 use mathlib.Core.Bool.{Bool, true, false, _&&_}
 use mathlib.Core.List.{List, [], _∷_}
 use native.Mathlib.Nat.{add-sub-cancel-left}
-use borrow.Author.Tests.{eq-eqb, ne-eqb, le-leb, lt-leb}
+use borrow.Author.Tests.{eq-eqb, ne-eqb, le-leb, lt-leb, leb-true}
 use lib.ListN.{length, take, drop, getD, drop-of-length-le}
 use lib.Dec.{eqb}
 use lib.Seq.{drop-cons}
@@ -13,10 +13,11 @@ use Rattle.numbers.specs.declared.NumberRead
 use Rattle.numbers.specs.declared.NumberRead.{NumberRead}
 use Rattle.numbers.specs.declared.ByteRead
 use Rattle.numbers.specs.declared.ByteRead.{ByteRead}
-use Rattle.numbers.specs.Field.{readWith, notWhole, numberValues, byteValues, numberAt}
+use Rattle.numbers.specs.Field.{present, field, readWith, notWhole, numberValues, byteValues, numberAt}
 use Rattle.numbers.proofs.Bools.{or-right, and-both}
 use Rattle.numbers.proofs.FieldLaws.{present-yes, present-no, read-means, cut-means}
 use Rattle.format.specs.Parsed.{done, refused, require}
+use Rattle.format.proofs.ParsedLaws.{require-out}
 use Rattle.format.specs.Fields.{fieldAt, same, keywordAt, knownType, knownFlags, knownAttention}
 
 -- What a reader of numbers answers is what the layout reads.
@@ -126,3 +127,15 @@ pub version-other : (v : ℕ) → (v ≡ 1 → ⊥) → eqb 1 v ≡ false
 version-other v e = ne-eqb 1 v (λ g. e (sym g))
 
 pub ruleset one-laws = (version-one, version-other)
+
+-- A field whose bytes are all there, and what was read of one.
+pub field-there : (s : List ℕ) (at n : ℕ) → at + n ≤ length s → fieldAt s at n ≡ done (field s at n) (at + n)
+unfolding fieldAt require
+field-there s at n h = rw (present-yes s at n h)
+
+pub field-size : (s : List ℕ) (at n : ℕ) {x m : ℕ} → fieldAt s at n ≡ done x m → (at + n ≡ m) × (at + n ≤ length s)
+unfolding fieldAt present
+field-size s at n {x} {m} e =
+    let r = require-out _ _ _ _ e in
+    let i : at + n ≡ m = let z = r .1 in cc in
+    (i, leb-true _ _ (r .0))

@@ -7,8 +7,8 @@ use mathlib.Core.Logic.{_⊎_, ⊎-elim}
 use native.Mathlib.Numerals.{add-one}
 use native.Mathlib.Omega.{arith}
 use borrow.Author.Tests.{lt-ltb, le-ltb, ltb-true, le-leb, lt-leb, eq-eqb, ne-eqb}
-use lib.ListN.{length, take, drop, getD, set, replicate, List·getD-eq-default, drop-of-length-le}
-use lib.Seq.{drop-cons, getD-set-same, getD-set-other, take-suc-set}
+use lib.ListN.{length, take, getD, set, replicate, List·getD-eq-default}
+use lib.Seq.{getD-set-same, getD-set-other, take-suc-set}
 use lib.Dec.{ltb, leb, eqb}
 use Rattle.numbers.proofs.Bools.{either, clash, or-left, same?}
 use Rattle.format.specs.Fields.{member, fresh}
@@ -20,20 +20,6 @@ use Rattle.fields.specs.Seen.{unmarked, newAfter, instanceNumberAt, Tell
 pub unmarked-beyond : (table : List ℕ) (x : ℕ) → length table ≤ x → false ≡ not (unmarked table x)
 unfolding unmarked
 unmarked-beyond table x h = ap (λ k. not (eqb k 0)) (sym (List·getD-eq-default table 0 h))
-
--- A search for an ID from a place on.
-module _ (ids : List ℕ) (id i : ℕ) where
-  pub member-here : i < length ids → getD ids i 0 ≡ id → member id (drop i ids) ≡ true
-  unfolding member
-  member-here h e = rw (drop-cons ids i 0 h, eq-eqb id (getD ids i 0) (sym e))
-
-  pub member-on : i < length ids → (getD ids i 0 ≡ id → ⊥) → member id (drop (i + 1) ids) ≡ member id (drop i ids)
-  unfolding member
-  member-on h e = rw (add-one, drop-cons ids i 0 h, ne-eqb id (getD ids i 0) (λ g. e (sym g)))
-
-  pub member-end : length ids ≤ i → member id (drop i ids) ≡ false
-  unfolding member
-  member-end h = rw (drop-of-length-le ids h)
 
 -- An ID stands in a list exactly where its position is inside.
 member-some : (x : ℕ) (ids : List ℕ) → member x ids ≡ some (λ y. eqb y x) ids
@@ -60,10 +46,6 @@ module _ (largest : ℕ) (ids : List ℕ) (x : ℕ) where
   pub new-above : largest < x → true ≡ newAfter largest ids x
   unfolding newAfter
   new-above h = sym (or-left (fresh true ids x) (lt-ltb largest x h))
-
-  pub new-sought : {b : Bool} → x ≤ largest → b ≡ member x ids → not b ≡ newAfter largest ids x
-  unfolding newAfter fresh
-  new-sought h e = rw (le-ltb largest x h) (ap not e)
 
   pub new-found : {p : ℕ} → x ≤ largest → p ≡ position (λ y. eqb y x) ids → leb (length ids) p ≡ newAfter largest ids x
   unfolding newAfter fresh

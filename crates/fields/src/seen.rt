@@ -4,6 +4,7 @@ use crate::attention_at;
 use crate::byte_at;
 use format::Kind;
 use format::Refusal;
+use tables::position_of;
 use tables::positions::enter_from;
 use tables::positions::find;
 ghost use Prim.Native.Nat.{max, _≤_, _<_};
@@ -11,7 +12,7 @@ ghost use mathlib.Core.Bool.{not};
 ghost use mathlib.Core.Path.{_≡_};
 ghost use lib.ListN.{length};
 ghost use Rattle.tables.specs.Indexed.{Indexed};
-ghost use Rattle.format.specs.Fields.{member, attentionAt};
+ghost use Rattle.format.specs.Fields.{attentionAt};
 ghost use Rattle.format.specs.Parsed.{requiring};
 ghost use Rattle.fields.specs.Seen.{unmarked, newAfter, instanceNumberAt};
 ghost use Rattle.fields.specs.Views.{byteParsed};
@@ -27,20 +28,6 @@ pub fn is_marked(seen: &[u8], x: u8) -> bool
     false
 }
 
-// Whether an ID stands in a list. It looks at each ID once, up to the one that is sought.
-fn contains(ids: &[u64], id: u64) -> bool
-    ensures { λ r. ⌜ r ≡ member id (now (ids .entry)) ⌝ }
-{
-    let mut i = 0;
-    while i < ids.len() {
-        if ids[i] == id {
-            return true;
-        }
-        i += 1;
-    }
-    false
-}
-
 // Whether an ID is new after those of a list, each of which is at most `largest`; the first `entered` of them are entered in an index. Where the ID is above `largest` it looks at
 // none of them, and where all are entered it goes by the index.
 pub fn is_new(ids: &[u64], index: &[u16], entered: usize, largest: u64, id: u64) -> bool
@@ -52,7 +39,7 @@ pub fn is_new(ids: &[u64], index: &[u16], entered: usize, largest: u64, id: u64)
     if entered == ids.len() {
         return ids.len() <= find(index, ids, id);
     }
-    !contains(ids, id)
+    ids.len() <= position_of(ids, id)
 }
 
 // Enters the IDs of a list, the last of which is `id`, after the first `entered` of them: how many are entered. It enters none where none was and `id` is above `largest`.

@@ -1,5 +1,5 @@
 -- The laws of a node instance's rule for an attention type.
-use Prim.Native.Nat.{ℕ, _+_, _<_}
+use Prim.Native.Nat.{ℕ, _<_}
 use mathlib.Core.Bool.{Bool, true, false, not, cond, _||_}
 use mathlib.Core.List.{List, [], _∷_}
 use mathlib.Core.Path.{_≡_, refl, sym, _∙_}
@@ -14,9 +14,9 @@ use Rattle.format.specs.NodeLayout.{ruleAt, nodeInstanceAt}
 use Rattle.format.specs.Parsed.{done, rowAt}
 use Rattle.format.specs.Rules.{Every}
 use Rattle.format.specs.Tree.{Rule, NodeInstance}
-use Rattle.format.proofs.ParsedLaws.{require-out}
+use Rattle.fields.proofs.FieldLaws.{field-size}
 use Rattle.fields.specs.Views.{forget}
-use Rattle.index.proofs.Again.{done-out, same-done}
+use Rattle.index.proofs.Again.{same-done}
 use Rattle.index.proofs.PartsLaws.{rule-fields, instance-parts}
 use Rattle.index.proofs.RowsLaws.{row-every}
 use Rattle.links.specs.Links.{rulePlace}
@@ -51,10 +51,7 @@ module _ (s : List ℕ) (at : ℕ) {t a : ℕ} (o : done t a ≡ fieldAt s at 1)
 
 -- The place after a field is not the first.
 field-place : (s : List ℕ) (at : ℕ) {x p : ℕ} → fieldAt s at 1 ≡ done x p → 0 < p
-unfolding fieldAt
-field-place s at {x} {p} e =
-    let q : at + 1 ≡ p = done-out (require-out _ _ _ _ e .1) .1 in
-    omega arith
+field-place s at e = omega (arith, field-size s at 1 e .0)
 
 -- A rule for the type is found exactly where there is one, if no rule's expression stands at 0.
 found-some : (attention : ℕ) (rs : List Rule) → Every (λ r. 0 < r .place) rs → not (eqb (rulePlace attention rs) 0) ≡ some (λ r. eqb (r .attention) attention) rs

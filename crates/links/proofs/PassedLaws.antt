@@ -4,9 +4,8 @@ use mathlib.Core.Bool.{true}
 use mathlib.Core.List.{List, []}
 use mathlib.Core.Path.{_≡_, _∙_, ap}
 use Rattle.format.specs.NodeLayout.{InstanceHead, captureAt, ruleAt, instanceHeadAt, nodeInstanceAt}
-use Rattle.format.specs.Parsed.{Parsed, done, refused, making, rowAt}
+use Rattle.format.specs.Parsed.{Parsed, done, making, rowAt}
 use Rattle.format.specs.Tree.{NodeInstance}
-use Rattle.format.proofs.ParsedLaws.{never}
 use Rattle.fields.specs.Views.{forget}
 use Rattle.index.proofs.Again.{done-out, same-done}
 use Rattle.index.proofs.PartsLaws.{instance-parts}
@@ -16,10 +15,6 @@ module _ {A : Type 0} {p : Parsed A} {a : A} {m : ℕ} (e : p ≡ done a m) wher
   pub passed-over : {u : Unit {0}} {next : ℕ} → done u next ≡ forget p → next ≡ m
   unfolding making
   passed-over d = done-out (d ∙ ap forget e) .1
-
-  pub not-passed : {B : Type 0} {w z : ℕ} → refused w z ≡ forget p → B
-  unfolding making
-  not-passed d = never (d ∙ ap forget e)
 
 -- A node instance whose head the code read, with the place a after it; b is the place after its captures.
 module _ (s : List ℕ) (at : ℕ) {h : InstanceHead} {a : ℕ} (o : done h a ≡ instanceHeadAt s true 0 [] at)

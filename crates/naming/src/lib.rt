@@ -132,7 +132,7 @@ fn key_fits(x: u64, kind: u64, index: &[u16], keys: &[u64], kinds: &[u64]) -> bo
 
 // The place after the expression at a place, where it is read with so many levels left and every register that it names is there and has the kind; otherwise 0. It reads each
 // byte of the expression at most once.
-pub fn fit_at(
+fn fit_at(
     s: &[u8],
     at: usize,
     levels: usize,

@@ -4,10 +4,10 @@ use mathlib.Core.Path.{_≡_, refl, sym, _∙_, ap}
 use mathlib.Core.Bool.{true}
 use mathlib.Core.List.{List, [], _∷_, map}
 use native.Mathlib.Omega.{arith}
-use borrow.Author.Tests.{le-leb, ltb-true}
+use borrow.Author.Tests.{ltb-true}
 use lib.ListN.{length}
 use lib.Dec.{ltb}
-use Rattle.numbers.specs.Field.{present, field}
+use Rattle.numbers.specs.Field.{field}
 use Rattle.format.specs.declared.Refusal.{Refusal}
 use Rattle.format.specs.Limits.{nodeLimit, levels}
 use Rattle.format.specs.Parsed.{Parsed, done, refused, andThen, making, requiring, rowAt}
@@ -25,7 +25,8 @@ use Rattle.fields.specs.Seen.{unmarked, newAfter, instanceNumberAt, Tells}
 use Rattle.nodes.specs.Nodes.{childBitAt, countsAt, nodeBodyAt}
 use Rattle.fields.specs.Views.{Element, refusedBy, forget}
 use Rattle.nodes.specs.Nodes.{nodeHeadParsed, instanceHeadParsed, ruleAttention, childBit, nodeNumber, nodeId, nodeElement}
-use Rattle.format.proofs.ParsedLaws.{then-in, making-in, require-in}
+use Rattle.format.proofs.ParsedLaws.{then-in, making-in}
+use Rattle.fields.proofs.FieldLaws.{field-there}
 use Rattle.fields.proofs.Parsing.{Found, found, followed, passed, making-making, row-end, row-step, row-length, row-bound}
 use Rattle.fields.proofs.Steps.{goes-making, stops-making}
 use Rattle.fields.proofs.SeenLaws.{number-told, tells-is}
@@ -42,13 +43,11 @@ captures-blind s n at = refl
 
 -- So many captures whose bytes are all there.
 capture-there : (s : List ℕ) (before : List Capture) (at : ℕ) → at + 4 ≤ length s → (k : Capture) × (captureAt s before at ≡ done k (at + 4))
-unfolding captureAt fieldAt present
+unfolding captureAt
 capture-there s before at h =
-    let a : at + 3 ≤ length s = omega arith in
-    let b : at + 3 + 1 ≤ length s = omega arith in
     let e : at + 3 + 1 ≡ at + 4 = omega arith in (
       record { place = at; id = field s at 3; number = field s (at + 3) 1 },
-      then-in _ _ (require-in _ _ _ _ (le-leb _ _ a) refl) (making-in _ _ (require-in _ _ _ _ (le-leb _ _ b) (ap (done (field s (at + 3) 1)) e)) refl),
+      then-in _ _ (field-there s at 3 (omega arith)) (making-in _ _ (field-there s (at + 3) 1 (omega arith) ∙ ap (done (field s (at + 3) 1)) e) refl),
     )
 
 pub captures-there : (s : List ℕ) (n : ℕ) (before : List Capture) (at : ℕ) {m : ℕ} → at + n * 4 ≤ length s → m ≡ at + n * 4 → done tt m ≡ forget (rowAt (captureAt s) n before at)

@@ -125,7 +125,7 @@ fn rule_at(s: &[u8], at: usize, seen: &[u8]) -> ByteRead
 }
 
 // The rules of a node instance. It reads each once, a refused one twice.
-pub fn rules_at(s: &[u8], at: usize, n: u8) -> NextRead
+fn rules_at(s: &[u8], at: usize, n: u8) -> NextRead
     ensures { λ r. ⌜ nextParsed r ≡ forget (rowAt (ruleAt (now (s .entry)) true) n [] at) ⌝ }
 {
     let mut seen = [0u8; 256];

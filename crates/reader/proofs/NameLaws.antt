@@ -22,7 +22,6 @@ use Rattle.fields.specs.declared.NextRead.{NextRead}
 use Rattle.fields.specs.Views.{nextParsed}
 use Rattle.tables.specs.Faults.{judgedAt}
 use Rattle.tables.specs.Keys.{registerKeys, nodeKeys}
-use Rattle.tables.specs.Tables.{keyOf}
 use Rattle.tables.proofs.FaultsLaws.{judged-none, judged-stop, judged-on}
 use Rattle.index.specs.Rows.{ReadAgain, entryPlace, entryWanted}
 use Rattle.index.specs.Columns.{TablesOf}
@@ -36,20 +35,17 @@ pub layout-meets : (s : List ℕ) → Bytes s → {c : Chip} {end : ℕ} → fil
 layout-meets s bytes {c} e = layout-out c (file-out s bytes e .1) .1
 
 -- So few names as a file has fit an index.
+names-few : {E : Type 0} (f : E → ℕ) (es : List E) (keys : List ℕ) → keys ≡ map f es → length es ≤ 1024 → length keys < 65536
+names-few f es keys e h = let l : length keys ≡ length es = ap length e ∙ length-map es f in omega arith
+
 module _ (s : List ℕ) (bytes : Bytes s) {c : Chip} {end : ℕ} (file : fileAt s true 0 ≡ done c end) where
   pub few-registers : (keys : List ℕ) → keys ≡ registerKeys c → length keys < 65536
   unfolding registerLimit
-  few-registers keys e =
-      let h : length (registerEntries c) ≤ 1024 = layout-meets s bytes file .limits .registers in
-      let l : length keys ≡ length (registerEntries c) = ap length e ∙ length-map (registerEntries c) (λ e. keyOf (e .id) (e .instance .number)) in
-      omega arith
+  few-registers keys e = names-few _ (registerEntries c) keys e (layout-meets s bytes file .limits .registers)
 
   pub few-nodes : (keys : List ℕ) → keys ≡ nodeKeys c → length keys < 65536
   unfolding nodeLimit
-  few-nodes keys e =
-      let h : length (nodeEntries c) ≤ 256 = layout-meets s bytes file .limits .nodes in
-      let l : length keys ≡ length (nodeEntries c) = ap length e ∙ length-map (nodeEntries c) (λ e. keyOf (e .id) (e .instance .number)) in
-      omega arith
+  few-nodes keys e = names-few _ (nodeEntries c) keys e (let h : length (nodeEntries c) ≤ 256 = layout-meets s bytes file .limits .nodes in omega arith)
 
 -- Its node instances are read again at their places.
 pub entries-again : (s : List ℕ) {c : Chip} {end : ℕ} → fileAt s true 0 ≡ done c end → Every (ReadAgain s) (nodeEntries c)

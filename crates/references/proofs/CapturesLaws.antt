@@ -4,32 +4,24 @@ use mathlib.Core.List.{List, [], _∷_}
 use mathlib.Core.Logic.{_⊎_, inl, inr, ⊎-elim}
 use mathlib.Core.Path.{_≡_, refl, sym, _∙_, ap, subst}
 use native.Mathlib.Omega.{arith}
-use borrow.Author.Tests.{leb-true}
 use lib.ListN.{length}
-use Rattle.numbers.specs.Field.{present}
-use Rattle.format.specs.Fields.{fieldAt}
 use Rattle.format.specs.Lookup.{gathered}
 use Rattle.format.specs.NodeLayout.{captureAt}
 use Rattle.format.specs.Parsed.{done, rowAt}
 use Rattle.format.specs.References.{Fault}
 use Rattle.format.specs.Tree.{Capture}
-use Rattle.format.proofs.ParsedLaws.{require-out}
+use Rattle.fields.proofs.FieldLaws.{field-size}
 use Rattle.tables.specs.Faults.{judgedAt}
 use Rattle.tables.proofs.FaultsLaws.{judged-none, judged-on}
-use Rattle.index.proofs.Again.{done-out}
 use Rattle.index.proofs.FillingLaws.{row-first, row-nothing}
 use Rattle.index.proofs.PartsLaws.{capture-fields}
 
 module _ (s : List ℕ) where
-  field-size : (at n : ℕ) {x m : ℕ} → fieldAt s at n ≡ done x m → (at + n ≡ m) × (at + n ≤ length s)
-  unfolding fieldAt present
-  field-size at n e = let r = require-out _ _ _ _ e in (done-out (r .1) .1, leb-true _ _ (r .0))
-
   capture-size : (before : List Capture) (at : ℕ) {k : Capture} {m : ℕ} → captureAt s before at ≡ done k m → (at + 4 ≡ m) × (at + 4 ≤ length s)
   capture-size before at e =
       let f = capture-fields s at before e in
-      let a = field-size at 3 (f .1) in
-      let b = field-size (f .0) 1 (f .2) in
+      let a = field-size s at 3 (f .1) in
+      let b = field-size s (f .0) 1 (f .2) in
       let i : at + 3 ≡ f .0 = a .0 in
       (omega (arith, b .0), omega (arith, b .1))
 

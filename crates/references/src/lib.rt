@@ -248,7 +248,7 @@ fn child_faults(
 
 // The first fault of a node instance, or the place after it, with the children of the instance in the 64 places of `child` from place k on. `keys` and `kinds` are those of the register
 // instances, `nodes` the keys of the node instances, each keys with an index over them.
-pub fn instance_faults(
+fn instance_faults(
     s: &[u8],
     at: usize,
     kind: u64,

@@ -45,7 +45,7 @@ fn free_from(index: &[u16], from: usize, p: usize) -> usize
 }
 
 // Enters the number x, which a table has at position p, after all before it.
-pub fn enter(index: &mut [u16], x: u64, p: usize)
+fn enter(index: &mut [u16], x: u64, p: usize)
     ensures { λ r. ⌜ ((table : List ℕ)
         → p < 65535
         → getD table p 0 ≡ x

@@ -6,11 +6,10 @@ use borrow.Author.Needs.{needs}
 use Rattle.format.specs.NodeLayout.{ruleAt}
 use Rattle.format.specs.Parsed.{rowAt}
 use Rattle.fields.specs.Views.{byteParsed, nextParsed}
-use Rattle.index.proofs.Again.{not-refused}
+use Rattle.index.proofs.Again.{not-refused, unmade}
 use Rattle.index.proofs.PartsLaws.{rule-fields}
 use Rattle.links.specs.Links.{rulePlace}
 use Rattle.links.proofs.RowLaws.{Going, going-begin, going-next, going-stop, going-end}
-use Rattle.links.proofs.PassedLaws.{not-passed}
 use Rattle.links.proofs.LinksLaws.{rule-none, rule-found, rule-expression, rule-other}
 use Rattle.links.proofs.find_rule.Statement.{statement}
 use Rattle.links.proofs.find_rule.Tie as tie
@@ -36,8 +35,8 @@ returns-2 c =
     let p3 = p2 .before in
     let p4 = p3 .before in
     going-stop _ _ (p4 .loop .inv) (p3 .loop-test .taken)
-    (λ before r m e. not-passed (rule-expression _ _ (sym (ap byteParsed (p1 .b .given .1)) ∙ p2 .byte-at .ensures) before r m e)
-    (sym (ap nextParsed (c .enum-told .given .1)) ∙ c .before .before .expression-at .ensures))
+    (λ before r m e. unmade _ (sym (ap nextParsed (c .enum-told .given .1)) ∙ c .before .before .expression-at .ensures)
+    (rule-expression _ _ (sym (ap byteParsed (p1 .b .given .1)) ∙ p2 .byte-at .ensures) before r m e))
 
 returns-3 : tie.Need-returns-3 Inv-loop μ-loop
 returns-3 c =

@@ -4,9 +4,9 @@ use borrow.Author.Needs.{needs}
 use Rattle.fields.specs.Views.{nextParsed}
 use Rattle.fields.proofs.SeenLaws.{tells-none}
 use Rattle.nodes.specs.Nodes.{instanceHeadParsed}
-use Rattle.index.proofs.Again.{not-refused}
+use Rattle.index.proofs.Again.{not-refused, unmade}
 use Rattle.index.proofs.PartsLaws.{instance-parts}
-use Rattle.links.proofs.PassedLaws.{not-passed, captures-after, rules-after}
+use Rattle.links.proofs.PassedLaws.{captures-after, rules-after}
 use Rattle.links.proofs.rule_place.Statement.{statement}
 use Rattle.links.proofs.rule_place.Tie as tie
 
@@ -21,7 +21,7 @@ returns-2 : tie.Need-returns-2
 returns-2 c =
     λ total before i m e.
     let r = captures-after _ _ (sym (ap instanceHeadParsed (c .before .before .before .before .top .given .1)) ∙ c .before .before .before .before .before .before .instance-head-at .ensures [] (tells-none 1)) total before i m e in
-    not-passed (r .1) (sym (ap nextParsed (c .enum-told .given .1)) ∙ c .before .before .captures-at .ensures)
+    unmade _ (sym (ap nextParsed (c .enum-told .given .1)) ∙ c .before .before .captures-at .ensures) (r .1)
 
 returns-3 : tie.Need-returns-3
 returns-3 c =
