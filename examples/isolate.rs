@@ -14,7 +14,7 @@ use std::io::{Read, Write};
 use std::process::ExitCode;
 
 /// The proved library. include/lutemarble.h says what holds of every call. A
-/// thread needs so much stack that the call fits: 320 KB are enough for each.
+/// thread needs so much stack that the call fits: 160 KB are enough for each.
 #[allow(dead_code)]
 pub mod lutemarble {
     /// The bytes of the longest chip data file.

@@ -58,11 +58,11 @@ extern "C" {
 #define LUTEMARBLE_ADDRESS_PLACES 4
 #define LUTEMARBLE_ISOLATE_PLACES 4
 
-/* The bytes of stack that each call needs: 96 KB, 128 KB, 192 KB and 320 KB. */
+/* The bytes of stack that each call needs: 96 KB, 128 KB, 128 KB and 160 KB. */
 #define LUTEMARBLE_CHECK_STACK 98304
 #define LUTEMARBLE_ADDRESS_STACK 131072
-#define LUTEMARBLE_ISOLATE_STACK 196608
-#define LUTEMARBLE_REPORT_STACK 327680
+#define LUTEMARBLE_ISOLATE_STACK 131072
+#define LUTEMARBLE_REPORT_STACK 163840
 
 /* The checker. `out` gets 8 numbers: refusal number, place, and for an accepted file the model/level and the counts of
  * registers, register instances, nodes, node instances and roots (all 0 where it is refused).

@@ -6,3 +6,4 @@ pub mod TableLaws
 pub mod BackLaws
 pub mod RankLaws
 pub mod Samples
+pub mod OrderLaws

@@ -1,6 +1,6 @@
 -- Where every child's rank is below its parent's, no node instance lies on a cycle.
-use mathlib.Core.Path.{_≡_, refl, sym}
-use mathlib.Core.Bool.{Bool, true, false, not}
+use mathlib.Core.Path.{_≡_, refl}
+use mathlib.Core.Bool.{Bool, true, false}
 use mathlib.Core.List.{List}
 use mathlib.Core.Logic.{⊎-elim}
 use mathlib.Core.Option.{Option, none, some}
@@ -8,7 +8,7 @@ use Prim.Native.Nat.{ℕ, _+_, _*_, _/_, _≤_, _<_}
 use native.Mathlib.Omega.{arith}
 use lib.Dec.{leb}
 use lib.ListN.{getD}
-use borrow.Author.Tests.{eqb-true, leb-false}
+use borrow.Author.Tests.{eqb-true, leb-false, not-true}
 use Rattle.numbers.proofs.Bools.{either, clash}
 use Rattle.graph.specs.Below.{any}
 use Rattle.graph.specs.Chains.{names}
@@ -49,11 +49,7 @@ falls-all rank n ch e = rw (← e)
 module _ (rank : List ℕ) (n : ℕ) (ch : List ℕ) (falls : falling rank n ch ≡ true) where
   none-rises : any (n * 64) (risesAt rank n ch) ≡ false
   unfolding falling
-  none-rises = go (any (n * 64) (risesAt rank n ch)) falls
-    where
-      go : (t : Bool) → not t ≡ true → t ≡ false
-      go true e = sym e
-      go false e = refl
+  none-rises = not-true (any (n * 64) (risesAt rank n ch)) falls
 
   place-falls : (k : ℕ) → k < n * 64 → risesAt rank n ch k ≡ false
   place-falls k h = ⊎-elim (λ e. clash (any-in (n * 64) _ k h e) none-rises) (λ e. e) (either (risesAt rank n ch k))

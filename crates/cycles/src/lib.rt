@@ -10,6 +10,7 @@ ghost use Rattle.walk.specs.TableGraph.{childAt};
 ghost use Rattle.cycles.specs.Cycle.{lookedAt, tableEdge, inCycle, firstBelow, firstCycle};
 ghost use Rattle.cycles.specs.Back.{namesBack, namedBack, marked};
 ghost use Rattle.cycles.specs.Ranks.{risesAt, falling};
+ghost use Rattle.cycles.specs.Order.{notLater, notEarlier, noneIn, noneAt};
 
 // How many of n node instances are looked at.
 fn looked_at(n: usize) -> usize
@@ -67,7 +68,7 @@ fn closes(m: &[u8], child: &[u16], n: usize, i: usize) -> bool
     false
 }
 
-// The instance i lies on a cycle. It takes one walk from i, of at most n steps, each of which goes twice over the 256 marks and once over 64 places; then it looks at each of the n * 64 places at most once more.
+// The instance i lies on a cycle. It takes one walk from i, of at most n steps, each of which looks twice at the words of waiting bits and once at 64 places; then it looks at each of the n * 64 places at most once more.
 fn on_cycle(child: &[u16], n: usize, i: usize) -> bool
     requires { ⌜ (n ≤ 256) × (i < n) ⌝ }
     ensures { λ r. ⌜ r ≡ inCycle n (now (child .entry)) i ⌝ }
@@ -159,17 +160,6 @@ fn falls(rank: &[usize], child: &[u16], n: usize) -> bool
     true
 }
 
-// Each of the first n instances has a rank above those of all later ones.
-fn rank_by_order(rank: &mut [usize], n: usize)
-    requires { ⌜ n ≤ length (now rank) ⌝ }
-{
-    let mut i = 0;
-    while i < n {
-        rank[i] = n - i;
-        i += 1;
-    }
-}
-
 // The search for ranks keeps a number for each instance: 512 until it comes there, then the instance that it came from, and at last the rank, which is above 512. No contract says that the ranks fall: `falls` looks, and ranks that do not only cost time.
 
 // c is an instance to which the search has not come.
@@ -242,14 +232,88 @@ fn rank_all(rank: &mut [usize], child: &[u16], n: usize)
     }
 }
 
-// Ranks show that no instance lies on a cycle: those of the instances' order, or else those that the search finds. It looks at each of the n * 64 places at most twice, and the search at up to 64 in each of its turns.
+// Every number of a row is above i. It looks at each once, and at all of them.
+fn row_forward(row: &[u16], i: u16) -> bool
+    ensures { λ r. ⌜ r ≡ noneIn (notLater i) (now (row .entry)) ⌝ }
+{
+    let mut bad: u16 = 0;
+    let mut b = 0;
+    while b < row.len() {
+        if row[b] <= i {
+            bad = bad | 1;
+        }
+        b += 1;
+    }
+    bad == 0
+}
+
+// Every number of a row is below i, or is not one of n. It looks at each once, and at all of them.
+fn row_backward(row: &[u16], i: u16, n: u16) -> bool
+    requires { ⌜ i ≤ n ⌝ }
+    ensures { λ r. ⌜ r ≡ noneIn (notEarlier n i) (now (row .entry)) ⌝ }
+{
+    let span = n - i;
+    let mut bad: u16 = 0;
+    let mut b = 0;
+    while b < row.len() {
+        let ahead = std::num::wrapping_sub_u16(row[b], i);
+        if ahead < span {
+            bad = bad | 1;
+        }
+        b += 1;
+    }
+    bad == 0
+}
+
+// Every child stands after its parent, and the table has the 64 places of each instance. It looks at each place once, up to the end of the first row where it is not so.
+fn all_forward(child: &[u16], n: usize) -> bool
+    requires { ⌜ n ≤ 256 ⌝ }
+    ensures { λ r. ⌜ r ≡ noneAt notLater n (now (child .entry)) ⌝ }
+{
+    let mut i = 0;
+    while i < n {
+        let first = i * 64;
+        let end = first + 64;
+        if child.len() < end {
+            return false;
+        }
+        if !row_forward(&child[first..end], i as u16) {
+            return false;
+        }
+        i += 1;
+    }
+    true
+}
+
+// Every child stands before its parent, and the table has the 64 places of each instance. It looks at each place once, up to the end of the first row where it is not so.
+fn all_backward(child: &[u16], n: usize) -> bool
+    requires { ⌜ n ≤ 256 ⌝ }
+    ensures { λ r. ⌜ r ≡ noneAt (notEarlier n) n (now (child .entry)) ⌝ }
+{
+    let mut i = 0;
+    while i < n {
+        let first = i * 64;
+        let end = first + 64;
+        if child.len() < end {
+            return false;
+        }
+        if !row_backward(&child[first..end], i as u16, n as u16) {
+            return false;
+        }
+        i += 1;
+    }
+    true
+}
+
+// The order of the instances shows that none lies on a cycle, or else the ranks that the search finds. It looks at each of the n * 64 places at most three times, and the search at up to 64 in each of its turns.
 fn acyclic(child: &[u16], n: usize) -> bool
     requires { ⌜ n ≤ 256 ⌝ }
     ensures { λ r. ⌜ (r ≡ true → (i : ℕ) → inCycle n (now (child .entry)) i ≡ false) ⌝ }
 {
-    let mut rank = [0usize; 256];
-    rank_by_order(&mut rank, n);
-    if falls(&rank, child, n) {
+    if all_forward(child, n) {
+        return true;
+    }
+    if all_backward(child, n) {
         return true;
     }
     let mut found = [512usize; 256];
@@ -257,7 +321,7 @@ fn acyclic(child: &[u16], n: usize) -> bool
     falls(&found, child, n)
 }
 
-// The first instance that lies on a cycle, or how many are looked at. Where ranks show that there is no cycle it takes no walk, and looks at n * 256 places at most. Where they do not it looks at each of the n * 64 places once more, and takes one walk for each instance, up to the answer, that is its own child or that of a later one.
+// The first instance that lies on a cycle, or how many are looked at. Where the order or ranks show that there is no cycle it takes no walk, and looks at n * 320 places at most. Where they do not it looks at each of the n * 64 places once more, and takes one walk for each instance, up to the answer, that is its own child or that of a later one.
 pub fn first_cycle(child: &[u16], n: usize) -> usize
     ensures { λ r. ⌜ r ≡ firstCycle (now (child .entry)) n ⌝ }
 {

@@ -13,29 +13,33 @@ use Rattle.format.specs.declared.Refusal.{Refusal}
 use Rattle.format.specs.Parsed.{Parsed, done, refused, making, rowAt}
 use Rattle.tables.specs.Indexed.{Indexed}
 use Rattle.tables.proofs.IndexedLaws.{indexed-none, indexed-append}
-use Rattle.fields.specs.Seen.{unmarked, newAfter, Tells, Largest}
+use Rattle.fields.specs.Seen.{unmarked, newAfter, Tells, Largest, Below}
 use Rattle.fields.specs.declared.NextRead
 use Rattle.fields.specs.declared.NextRead.{NextRead}
 use Rattle.fields.specs.declared.CountRead
 use Rattle.fields.specs.declared.CountRead.{CountRead}
 use Rattle.fields.specs.Views.{Element, Section, refusedBy, nextParsed, countParsed, forget}
 use Rattle.fields.proofs.Parsing.{Found, found, missed, making-making, row-end, row-step, row-stop, row-length}
-use Rattle.fields.proofs.SeenLaws.{tells-none, tells-mark, tells-nothing, tells-put, tells-new, largest-nothing, largest-put}
+use Rattle.fields.proofs.SeenLaws.{tells-none, tells-mark, tells-nothing, tells-put, tells-new, largest-nothing, largest-put, below-nothing, below-put}
 
--- `left` elements are to come at `place`; `table` marks the numbers of those before, and with these `begun` have begun, of which `base` had before the row.
-pub record Row {A : Type 0} (p : List A → ℕ → Parsed A) (number : A → ℕ) (whole : Parsed (List A)) (base begun : ℕ) (table : List ℕ) (left place : ℕ) : Type 0 where
+-- `left` elements are to come at `place`; `table`, which has so many places, marks the numbers of those before, and with these `begun` have begun, of which `base` had before the row.
+pub record RowIn (size : ℕ) {A : Type 0} (p : List A → ℕ → Parsed A) (number : A → ℕ) (whole : Parsed (List A)) (base begun : ℕ) (table : List ℕ) (left place : ℕ) : Type 0 where
   pub before : List A
   pub counted : begun ≡ base + length before
-  pub sized : length table ≡ 256
+  pub sized : length table ≡ size
   pub marks : Tells (unmarked table) (map number before)
   pub same : forget whole ≡ forget (rowAt p left before place)
 
-module _ {A : Type 0} (p : List A → ℕ → Parsed A) (number : A → ℕ) where
-  pub row-begin : (base n at : ℕ) → Row p number (rowAt p n [] at) base base (replicate 256 0) n at
-  row-begin base n at = record { before = []; counted = omega arith; sized = length-replicate {A = ℕ} 256 0; marks = tells-none 256; same = refl }
+-- With a place for every number that a byte holds.
+abbrev pub Row : {A : Type 0} → (List A → ℕ → Parsed A) → (A → ℕ) → Parsed (List A) → ℕ → ℕ → List ℕ → ℕ → ℕ → Type 0
+Row p number whole base begun table left place = RowIn 256 p number whole base begun table left place
 
-  module _ {whole : Parsed (List A)} {base begun : ℕ} {table : List ℕ} {n at : ℕ} (r : Row p number whole base begun table n at) where
-    pub row-next : {v m : ℕ} → done v m ≡ making number (p (r .before) at) → 0 < n → v < 256 → Row p number whole base (begun + 1) (set table v 1) (n - 1) m
+module _ {size : ℕ} {A : Type 0} (p : List A → ℕ → Parsed A) (number : A → ℕ) where
+  pub row-begin : (base n at : ℕ) → RowIn size p number (rowAt p n [] at) base base (replicate size 0) n at
+  row-begin base n at = record { before = []; counted = omega arith; sized = length-replicate {A = ℕ} size 0; marks = tells-none size; same = refl }
+
+  module _ {whole : Parsed (List A)} {base begun : ℕ} {table : List ℕ} {n at : ℕ} (r : RowIn size p number whole base begun table n at) where
+    pub row-next : {v m : ℕ} → done v m ≡ making number (p (r .before) at) → 0 < n → v < size → RowIn size p number whole base (begun + 1) (set table v 1) (n - 1) m
     row-next {v} {m} e h k =
         let f : Found number (p (r .before) at) v m = found number (p (r .before) at) e in
         record {
@@ -67,6 +71,34 @@ module _ {A : Type 0} (p : List A → ℕ → Parsed A) (n at : ℕ) {x : NextRe
   unfolding making
   row-missed g e h k = k ∙ sym (ap (making g) (missed (λ _. tt) (rowAt p n [] at) (sym (ap nextParsed h) ∙ e)))
 
+-- A loop over elements each of which has some instances: those before have `total`, and `left` are to come at `place`.
+pub record Counting {A : Type 0} (p : List A → ℕ → Parsed A) (totalOf : List A → ℕ) (whole : Parsed (List A)) (before : List A) (total left place : ℕ) : Type 0 where
+  pub counted : total ≡ totalOf before
+  pub same : making totalOf whole ≡ making (λ xs. total + totalOf xs) (rowAt p left before place)
+
+module _ {A : Type 0} (p : List A → ℕ → Parsed A) (size : A → ℕ) (totalOf : List A → ℕ) (nothing : totalOf [] ≡ 0) (another : (a : A) (xs : List A) → totalOf (a ∷ xs) ≡ size a + totalOf xs) where
+  counting-begin : (n at : ℕ) → Counting p totalOf (rowAt p n [] at) [] 0 n at
+  counting-begin n at = record { counted = sym nothing; same = ap (λ g. making g (rowAt p n [] at)) (fun-ext (λ xs. sym (zero-add (totalOf xs)))) }
+
+  module _ {whole : Parsed (List A)} {before : List A} {total n at : ℕ} (r : Counting p totalOf whole before total n at) where
+    counting-next : {a : A} {k m : ℕ} → p before at ≡ done a m → size a ≡ k → 0 < n → Counting p totalOf whole (a ∷ before) (total + k) (n - 1) m
+    counting-next {a} {k} {m} e g h =
+        record {
+          counted = omega (arith, another a before, r .counted);
+          same = r .same ∙ ap (making (λ xs. total + totalOf xs)) (row-step p n before at h e) ∙ making-making _ _ _
+              ∙ ap (λ g. making g (rowAt p (n - 1) (a ∷ before) m)) (fun-ext (λ xs. omega (arith, another a xs)));
+        }
+
+    counting-last : n ≤ 0 → done total at ≡ making totalOf whole
+    unfolding making
+    counting-last h =
+        let e : total + totalOf [] ≡ total = omega (arith, nothing) in
+        sym (r .same ∙ ap (making (λ xs. total + totalOf xs)) (row-end p n before at h) ∙ ap (λ t. done t at) e)
+
+    counting-refused : {k m : ℕ} → p before at ≡ refused k m → 0 < n → refused k m ≡ making totalOf whole
+    unfolding making
+    counting-refused e h = sym (r .same ∙ ap (making (λ xs. total + totalOf xs)) (row-stop p n before at h e))
+
 -- A loop over registers or nodes: `ids` holds the IDs of those before, of which there are `known`, each at most `largest`, and the first `entered` are in `index`; these have `total` instances.
 pub record Elements {A : Type 0} (p : List A → ℕ → Parsed A) (id : A → ℕ) (totalOf : List A → ℕ) (whole : Parsed (List A)) (ids index : List ℕ) (known entered largest total left place : ℕ) : Type 0 where
   pub before : List A
@@ -74,13 +106,21 @@ pub record Elements {A : Type 0} (p : List A → ℕ → Parsed A) (id : A → �
   pub within : entered ≤ known
   pub indexed : Indexed index (take known ids) entered
   pub bound : Largest largest (map id before)
-  pub counted : total ≡ totalOf before
-  pub same : making totalOf whole ≡ making (λ xs. total + totalOf xs) (rowAt p left before place)
+  pub counting : Counting p totalOf whole before total left place
+
+-- A loop over elements whose IDs or numbers rise: those before are below `bound`, and have `total` instances.
+pub record Rising {A : Type 0} (p : List A → ℕ → Parsed A) (id : A → ℕ) (totalOf : List A → ℕ) (whole : Parsed (List A)) (bound total left place : ℕ) : Type 0 where
+  pub before : List A
+  pub below : Below bound (map id before)
+  pub counting : Counting p totalOf whole before total left place
 
 module _ {A : Type 0} (p : List A → ℕ → Parsed A) (id size : A → ℕ) (totalOf : List A → ℕ) (nothing : totalOf [] ≡ 0) (another : (a : A) (xs : List A) → totalOf (a ∷ xs) ≡ size a + totalOf xs) where
   pub elements-begin : (n at : ℕ) (ids index : List ℕ) → Elements p id totalOf (rowAt p n [] at) ids index 0 0 0 0 n at
   elements-begin n at ids index =
-      record { before = []; listed = tells-nothing ids; within = omega arith; indexed = indexed-none index (take 0 ids); bound = largest-nothing 0; counted = sym nothing; same = ap (λ g. making g (rowAt p n [] at)) (fun-ext (λ xs. sym (zero-add (totalOf xs)))) }
+      record { before = []; listed = tells-nothing ids; within = omega arith; indexed = indexed-none index (take 0 ids); bound = largest-nothing 0; counting = counting-begin p size totalOf nothing another n at }
+
+  pub rising-begin : (n at : ℕ) → Rising p id totalOf (rowAt p n [] at) 0 0 n at
+  rising-begin n at = record { before = []; below = below-nothing 0; counting = counting-begin p size totalOf nothing another n at }
 
   module _ {whole : Parsed (List A)} {ids index : List ℕ} {known entered largest total n at : ℕ} (r : Elements p id totalOf whole ids index known entered largest total n at) where
     pub elements-told : Tells (newAfter largest (take known ids)) (map id (r .before))
@@ -109,20 +149,31 @@ module _ {A : Type 0} (p : List A → ℕ → Parsed A) (id size : A → ℕ) (t
           within = omega (arith, x .0, q .0);
           indexed = x .1 (omega (arith, q .0)) (q .1);
           bound = largest-put largest (map id (r .before)) i (r .bound) ei g;
-          counted = omega (arith, another a (r .before), r .counted);
-          same = r .same ∙ ap (making (λ xs. total + totalOf xs)) (row-step p n (r .before) at h (f .is)) ∙ making-making _ _ _
-              ∙ ap (λ g. making g (rowAt p (n - 1) (a ∷ r .before) m)) (fun-ext (λ xs. omega (arith, another a xs)));
+          counting = counting-next p size totalOf nothing another (r .counting) (f .is) ek h;
         }
 
     pub elements-last : n ≤ 0 → done total at ≡ making totalOf whole
-    unfolding making
-    elements-last h =
-        let e : total + totalOf [] ≡ total = omega (arith, nothing) in
-        sym (r .same ∙ ap (making (λ xs. total + totalOf xs)) (row-end p n (r .before) at h) ∙ ap (λ t. done t at) e)
+    elements-last h = counting-last p size totalOf nothing another (r .counting) h
 
     pub elements-refused : {k m : ℕ} → _≡_ {A = Parsed Element} (refused k m) (making (λ a. record { id = id a; instances = size a }) (p (r .before) at)) → 0 < n → refused k m ≡ making totalOf whole
-    unfolding making
-    elements-refused e h = sym (r .same ∙ ap (making (λ xs. total + totalOf xs)) (row-stop p n (r .before) at h (missed _ (p (r .before) at) e)))
+    elements-refused e h = counting-refused p size totalOf nothing another (r .counting) (missed _ (p (r .before) at) e) h
+
+  module _ {whole : Parsed (List A)} {bound total n at : ℕ} (r : Rising p id totalOf whole bound total n at) where
+    pub rising-step : {a : A} {v k m j : ℕ} → p (r .before) at ≡ done a m → id a ≡ v → size a ≡ k → bound ≤ v → j ≡ v + 1 → 0 < n → Rising p id totalOf whole j (total + k) (n - 1) m
+    rising-step {a} {v} e i g b q h =
+        record { before = a ∷ r .before; below = below-put (map id (r .before)) v (r .below) b i q; counting = counting-next p size totalOf nothing another (r .counting) e g h }
+
+    pub rising-next : {i k m j : ℕ} → _≡_ {A = Parsed Element} (done (record { id = i; instances = k }) m) (making (λ a. record { id = id a; instances = size a }) (p (r .before) at)) → bound ≤ i → j ≡ i + 1 → 0 < n
+        → Rising p id totalOf whole j (total + k) (n - 1) m
+    rising-next {i} {k} {m} e b q h =
+        let f : Found {B = Element} (λ a. record { id = id a; instances = size a }) (p (r .before) at) (record { id = i; instances = k }) m = found _ (p (r .before) at) e in
+        rising-step (f .is) (ap (λ x. x .id) (f .made)) (ap (λ x. x .instances) (f .made)) b q h
+
+    pub rising-last : n ≤ 0 → done total at ≡ making totalOf whole
+    rising-last h = counting-last p size totalOf nothing another (r .counting) h
+
+    pub rising-refused : {k m : ℕ} → _≡_ {A = Parsed Element} (refused k m) (making (λ a. record { id = id a; instances = size a }) (p (r .before) at)) → 0 < n → refused k m ≡ making totalOf whole
+    rising-refused e h = counting-refused p size totalOf nothing another (r .counting) (missed _ (p (r .before) at) e) h
 
 -- A section of so many elements.
 module _ {A : Type 0} (p : List A → ℕ → Parsed A) (totalOf : List A → ℕ) (n at : ℕ) {x : CountRead} where

@@ -1,6 +1,6 @@
 -- The laws of marks and of lists of IDs.
-use Prim.Native.Nat.{ℕ, zero, suc, max, _+_, _-_, _≤_, _<_}
-use mathlib.Core.Path.{_≡_, refl, sym, _∙_, ap, fun-ext}
+use Prim.Native.Nat.{ℕ, zero, suc, max, _+_, _-_, _^_, _≤_, _<_}
+use mathlib.Core.Path.{_≡_, refl, sym, _∙_, ap, subst, fun-ext}
 use mathlib.Core.Bool.{Bool, true, false, not, _||_}
 use mathlib.Core.List.{List, [], _∷_, _++_}
 use mathlib.Core.Logic.{_⊎_, ⊎-elim}
@@ -11,11 +11,18 @@ use lib.ListN.{length, take, getD, set, replicate, List·getD-eq-default}
 use lib.Seq.{getD-set-same, getD-set-other, take-suc-set}
 use lib.Dec.{ltb, leb, eqb}
 use Rattle.numbers.proofs.Bools.{either, clash, or-left, same?}
-use Rattle.format.specs.Fields.{member, fresh}
+use Rattle.format.specs.declared.Refusal.{Refusal}
+use Rattle.format.specs.Parsed.{Parsed, done, refused, andThen, requiring}
+use Rattle.format.specs.Fields.{fieldAt, member, fresh}
+use Rattle.format.proofs.ParsedLaws.{requiring-in}
 use Rattle.format.specs.Lookup.{some, position}
 use Rattle.format.proofs.FaultsLaws.{below?}
 use Rattle.format.proofs.PositionsLaws.{some-position}
-use Rattle.fields.specs.Seen.{unmarked, newAfter, instanceNumberAt, Tells, Largest}
+use Rattle.fields.specs.declared.RisingId
+use Rattle.fields.specs.declared.RisingId.{RisingId}
+use Rattle.fields.specs.Rising.{IdTold}
+use Rattle.fields.specs.Views.{refusedBy}
+use Rattle.fields.specs.Seen.{unmarked, newAfter, instanceNumberAt, Tells, Largest, Below}
 
 pub unmarked-beyond : (table : List ℕ) (x : ℕ) → length table ≤ x → false ≡ not (unmarked table x)
 unfolding unmarked
@@ -137,3 +144,30 @@ tells-new largest ids {numbers} t l = record { tells = λ x. ⊎-elim (λ h. or-
 
 pub new-nothing : (largest : ℕ) → Tells (newAfter largest []) []
 new-nothing largest = tells-new largest [] (tells-nothing []) (largest-nothing largest)
+
+-- Numbers that rise: every number from a bound on is new.
+pub below-nothing : (bound : ℕ) → Below bound []
+unfolding fresh member
+below-nothing bound = record { above = λ x h. refl }
+
+pub below-put : {bound : ℕ} (numbers : List ℕ) (v : ℕ) {w m : ℕ} → Below bound numbers → bound ≤ v → w ≡ v → m ≡ v + 1 → Below m (w ∷ numbers)
+below-put numbers v {w} b h e g = record { above = λ x l. put-above numbers w x (λ i. omega arith) (b .above x (omega arith)) }
+
+-- An ID that is not below the bound is read the same after those before it, and so is what refuses it.
+module _ (s : List ℕ) (at width : ℕ) {bound : ℕ} (numbers : List ℕ) (b : Below bound numbers) where
+  pub id-done : {v m : ℕ} → done v m ≡ fieldAt s at width → bound ≤ v → done v m ≡ requiring (fresh true numbers) 7 at (fieldAt s at width)
+  id-done e h = sym (requiring-in _ _ _ _ (sym e) (b .above _ h))
+
+  pub id-refused : {k m : ℕ} → refused k m ≡ fieldAt s at width → refused k m ≡ requiring (fresh true numbers) 7 at (fieldAt s at width)
+  unfolding requiring andThen
+  id-refused e = rw (← e)
+
+-- What is known of an ID that does not fall.
+pub id-rose : (width bound : ℕ) (p : Parsed ℕ) {x : RisingId} {i a : ℕ} → x ≡ RisingId.Id i a → IdTold width bound x p → (done i a ≡ p) × (bound ≤ i) × (i < 256 ^ width)
+id-rose width bound p e t = subst (λ y. IdTold width bound y p) e t
+
+pub id-new : (width bound : ℕ) (p : Parsed ℕ) {x : RisingId} {i a : ℕ} → x ≡ RisingId.Id i a → IdTold width bound x p → done i a ≡ p
+id-new width bound p e t = id-rose width bound p e t .0
+
+pub id-cut : (width bound : ℕ) (p : Parsed ℕ) {x : RisingId} {r : Refusal} → x ≡ RisingId.Refused r → IdTold width bound x p → refusedBy r ≡ p
+id-cut width bound p e t = subst (λ y. IdTold width bound y p) e t

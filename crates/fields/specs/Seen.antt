@@ -1,5 +1,5 @@
 -- What the reader keeps of the elements before, for number 7.
-use Prim.Native.Nat.{ℕ, _<_}
+use Prim.Native.Nat.{ℕ, _≤_, _<_}
 use mathlib.Core.Bool.{Bool, true, _||_}
 use mathlib.Core.List.{List}
 use mathlib.Core.Path.{_≡_}
@@ -27,3 +27,7 @@ pub record Tells (new : ℕ → Bool) (numbers : List ℕ) : Type 0 where
 -- A number above `largest` is new after those given.
 pub record Largest (largest : ℕ) (numbers : List ℕ) : Type 0 where
   pub above : (x : ℕ) → largest < x → fresh true numbers x ≡ true
+
+-- Every number from a bound on is new after those given.
+pub record Below (bound : ℕ) (numbers : List ℕ) : Type 0 where
+  pub above : (x : ℕ) → bound ≤ x → fresh true numbers x ≡ true

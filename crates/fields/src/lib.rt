@@ -47,6 +47,26 @@ pub enum SectionRead {
     Refused(Refusal),
 }
 
+// An ID that is not below a bound, with the place after it; or a refusal; or neither, where the ID is below.
+pub enum RisingId {
+    Id(u64, usize),
+    Refused(Refusal),
+    Falls,
+}
+
+// The same of a whole register or node.
+pub enum RisingElement {
+    Element(u64, u8, usize),
+    Refused(Refusal),
+    Falls,
+}
+
+// The same of some registers or nodes.
+pub enum RisingCount {
+    Read(CountRead),
+    Falls,
+}
+
 // The field of one byte.
 pub fn byte_at(s: &[u8], at: usize) -> ByteRead
     ensures { λ r. ⌜ byteParsed r ≡ fieldAt (now (s .entry)) at 1 ⌝ }

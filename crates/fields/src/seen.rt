@@ -1,20 +1,27 @@
 // What the reader keeps of the elements before: marks for numbers of one byte, and a list of IDs with the largest of them.
 use crate::ByteRead;
+use crate::NumberRead;
+use crate::RisingId;
 use crate::attention_at;
 use crate::byte_at;
+use crate::number_at;
 use format::Kind;
 use format::Refusal;
+use numbers::Width;
 use tables::position_of;
 use tables::positions::enter_from;
 use tables::positions::find;
-ghost use Prim.Native.Nat.{max, _≤_, _<_};
-ghost use mathlib.Core.Bool.{not};
+ghost use Prim.Native.Nat.{ℕ, max, _≤_, _<_};
+ghost use mathlib.Core.Bool.{true, not};
+ghost use mathlib.Core.List.{List};
 ghost use mathlib.Core.Path.{_≡_};
 ghost use lib.ListN.{length};
 ghost use Rattle.tables.specs.Indexed.{Indexed};
-ghost use Rattle.format.specs.Fields.{attentionAt};
+ghost use Rattle.numbers.specs.Field.{sizeOf};
+ghost use Rattle.format.specs.Fields.{fieldAt, attentionAt, fresh};
 ghost use Rattle.format.specs.Parsed.{requiring};
-ghost use Rattle.fields.specs.Seen.{unmarked, newAfter, instanceNumberAt};
+ghost use Rattle.fields.specs.Rising.{IdTold};
+ghost use Rattle.fields.specs.Seen.{unmarked, newAfter, instanceNumberAt, Below};
 ghost use Rattle.fields.specs.Views.{byteParsed};
 
 // Whether a number has a mark.
@@ -63,6 +70,24 @@ pub fn larger(a: u64, b: u64) -> u64
         return b;
     }
     a
+}
+
+// An ID of two or three bytes after others that are all below `bound`: it is new where it is not below `bound` too. It looks at none of the others.
+pub fn rising_id_at(s: &[u8], at: usize, w: Width, bound: u64) -> RisingId
+    ensures { λ r. ⌜ ((numbers : List ℕ)
+        → Below bound numbers
+        → IdTold (sizeOf w) bound r (requiring (fresh true numbers) 7 at (fieldAt (now (s .entry)) at (sizeOf w)))) ⌝ }
+{
+    let i = number_at(s, at, w);
+    match i {
+        NumberRead::Number(id, next) => {
+            if id < bound {
+                return RisingId::Falls;
+            }
+            RisingId::Id(id, next)
+        }
+        NumberRead::Refused(r) => RisingId::Refused(r),
+    }
 }
 
 // The number byte of an instance: `seen` marks the numbers before it, and `begun` instances stand before it in the file.

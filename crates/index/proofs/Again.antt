@@ -13,6 +13,7 @@ use Rattle.format.specs.Tree.{RegisterInstance, NodeInstance}
 use Rattle.format.proofs.ParsedLaws.{never, then-out, then-in, making-out, requiring-out, requiring-in}
 use Rattle.fields.proofs.Parsing.{Found, found}
 use Rattle.registers.specs.declared.RegisterHead as declared
+use Rattle.registers.specs.Registers.{registerFlagsAt, registerRestAt}
 use Rattle.nodes.specs.Nodes.{nodeNumber}
 use Rattle.index.specs.declared.Head.{Head}
 use Rattle.index.specs.declared.Instance.{Instance}
@@ -78,19 +79,29 @@ module _ (s : List ℕ) (at : ℕ) where
       → refused w z ≡ fieldAt s at 1 → registerInstanceAt s true total type before at ≡ done i m → B
   register-instance-there total type before a e = not-refused a (register-instance-fields total type before e .0)
 
-  -- A register's head without the IDs before it.
-  pub register-head-again : (ids : List ℕ) {h : RegisterHead} {m : ℕ} → registerHeadAt s true ids at ≡ done h m → registerHeadAt s true [] at ≡ done h m
-  unfolding registerHeadAt fresh member
-  register-head-again ids e =
+  -- A register's head: its ID and the rest.
+  register-head-parts : (ids : List ℕ) {h : RegisterHead} {m : ℕ} → registerHeadAt s true ids at ≡ done h m → (i : ℕ) × (a : ℕ) × (fieldAt s at 3 ≡ done i a) × (registerRestAt s i a ≡ done h m)
+  unfolding registerHeadAt registerRestAt registerFlagsAt
+  register-head-parts ids e =
       let t = then-out _ _ e in
       let q = requiring-out _ _ _ _ (t .2) in
-      then-in _ _ (requiring-in _ _ _ _ (q .0) refl) (t .3)
+      (t .0, t .1, q .0, t .3)
 
-  pub head-is : (ids : List ℕ) {h : RegisterHead} {m next : ℕ} {k : declared.RegisterHead}
-      → _≡_ {A = Parsed RegisterHead} (done (record { id = k .id; type = k .kind; flags = k .flags; count = k .count }) next) (registerHeadAt s true [] at)
+  pub register-head-rest : (ids : List ℕ) {h : RegisterHead} {m i a : ℕ} → done i a ≡ fieldAt s at 3 → registerHeadAt s true ids at ≡ done h m → registerRestAt s i a ≡ done h m
+  register-head-rest ids o e =
+      let f = register-head-parts ids e in
+      let g = same-done o (f .2) in
+      rw (g .0, g .1) (f .3)
+
+  pub register-head-there : {B : Type 0} (ids : List ℕ) {h : RegisterHead} {m w z : ℕ} → refused w z ≡ fieldAt s at 3 → registerHeadAt s true ids at ≡ done h m → B
+  register-head-there ids o e = not-refused o (register-head-parts ids e .2)
+
+  pub head-is : (ids : List ℕ) {h : RegisterHead} {m next i a : ℕ} {k : declared.RegisterHead}
+      → done i a ≡ fieldAt s at 3
+      → _≡_ {A = Parsed RegisterHead} (done (record { id = k .id; type = k .kind; flags = k .flags; count = k .count }) next) (registerRestAt s i a)
       → registerHeadAt s true ids at ≡ done h m
       → _≡_ {A = Head} (record { id = k .id; kind = k .kind; code = kindOf (k .kind) (k .flags); count = k .count; next = next }) (headOf h m)
-  head-is ids a e = let f = same-done a (register-head-again ids e) in rw (← f .0, f .1)
+  head-is ids o b e = let f = same-done b (register-head-rest ids o e) in rw (← f .0, f .1)
 
   -- A node's head without the IDs before it.
   pub node-head-again : (ids : List ℕ) {h : NodeHead} {m : ℕ} → nodeHeadAt s true ids at ≡ done h m → nodeHeadAt s true [] at ≡ done h m

@@ -20,7 +20,7 @@ use Rattle.nodes.specs.Nodes.{nodeId, nodeElement}
 use Rattle.format.proofs.NodesAccepted.{nodes-more}
 use Rattle.tables.specs.Kinds.{wantedKind}
 use Rattle.index.specs.declared.Head.{Head}
-use Rattle.index.specs.Rows.{Rows, filled, rowOf, registerRow, nodeRow, headOf}
+use Rattle.index.specs.Rows.{Row, Rows, filled, rowOf, registerRow, nodeRow, headOf}
 use Rattle.index.proofs.Again.{done-out, node-head-again}
 
 -- The instances of an element whose head was read.
@@ -53,6 +53,23 @@ module _ (s : List ℕ) (at : ℕ) (t : Rows) (k : ℕ) {h : Head} {u : Rows} {n
       let n : h .count ≡ length (r .instances) = y .2 ∙ ap length i in
       (y .0, subst (λ x. u ≡ filled t k (map registerRow (entriesOf x))) (g .2) (y .1 ∙ ap (filled t k) (sym (map-map registerRow _ (g .0)))), omega arith, omega (arith, registers-more r before))
 
+-- What is known of an element after some others holds after whatever others with as many instances, where two readings of it after these give the same.
+module _ {A : Type 0} (p : List A → ℕ → Parsed A) (id size : A → ℕ) (totalOf : List A → ℕ) (another : (a : A) (xs : List A) → totalOf (a ∷ xs) ≡ size a + totalOf xs)
+    (rows : A → List Row) (sized : (a : A) → length (rows a) ≡ size a) (at : ℕ)
+    (same : (b before : List A) → totalOf b ≡ totalOf before → (x y : A) (m n : ℕ) → p b at ≡ done x m → p before at ≡ done y n → (x ≡ y) × (m ≡ n)) where
+  pub element-next : (t : Rows) (k : ℕ) {u : Rows} (b : List A) → k ≡ totalOf b
+      → {i n next : ℕ} → _≡_ {A = Parsed Element} (done (record { id = i; instances = n }) next) (making (λ a. record { id = id a; instances = size a }) (p b at))
+      → ((a : A) (m : ℕ) → p b at ≡ done a m → u ≡ filled t k (rows a))
+      → (before : List A) (a : A) (m : ℕ) → k ≡ totalOf before → p before at ≡ done a m
+      → (next ≡ m) × (u ≡ filled t k (rows a)) × (k + n ≡ k + length (rows a)) × (k + n ≡ totalOf (a ∷ before))
+  element-next t k b counted {i} {n} {next} z fills before a m e d =
+      let f : Found {B = Element} (λ a. record { id = id a; instances = size a }) (p b at) (record { id = i; instances = n }) next = found _ (p b at) z in
+      let w = same b before (sym counted ∙ e) (f .value) a next m (f .is) d in
+      let v : size (f .value) ≡ n = ap (λ x. x .instances) (f .made) in
+      let o : size (f .value) ≡ size a = ap size (w .0) in
+      let r : p b at ≡ done a m = f .is ∙ rw (w .0, w .1) in
+      (w .1, fills a m r, omega (arith, sized a), omega (arith, another a before))
+
 -- One node: two readings of it, after whatever nodes with as many instances stand before it, give the same.
 module _ (s : List ℕ) (at : ℕ) where
   row-same : {t u c d a b : ℕ} → t ≡ u → c ≡ d → a ≡ b → rowAt (nodeInstanceAt s true t) c [] a ≡ rowAt (nodeInstanceAt s true u) d [] b
@@ -62,7 +79,7 @@ module _ (s : List ℕ) (at : ℕ) where
       → _≡_ {A = Node} (record { id = h .id; type = h .type; instances = is }) (record { id = k .id; type = k .type; instances = js })
   made-same e f = rw (e, f)
 
-  node-same : (b before : List Node) → nodeTotal b ≡ nodeTotal before → {x y : Node} {m n : ℕ} → nodeAt s true b at ≡ done x m → nodeAt s true before at ≡ done y n → (x ≡ y) × (m ≡ n)
+  pub node-same : (b before : List Node) → nodeTotal b ≡ nodeTotal before → {x y : Node} {m n : ℕ} → nodeAt s true b at ≡ done x m → nodeAt s true before at ≡ done y n → (x ≡ y) × (m ≡ n)
   unfolding nodeAt
   node-same b before t {x} {y} {m} {n} e d =
       let p = then-out _ _ e in
@@ -89,19 +106,13 @@ module _ (s : List ℕ) (at : ℕ) where
         let r : rowAt (nodeInstanceAt s true k) count [] a ≡ done (g .0) m = rw (counted, c, w .1) (g .1) in
         subst (λ x. u ≡ filled t k (map nodeRow (nodeEntriesOf x))) (g .2) (f (g .0) m r ∙ rw (i, j) (ap (filled t k) (sym (map-map nodeRow _ (g .0)))))
 
-    -- What is known of it after some nodes holds after whatever nodes with as many instances.
-    pub node-next : {i size next : ℕ} → _≡_ {A = Parsed Element} (done (record { id = i; instances = size }) next) (making nodeElement (nodeAt s true b at))
-        → ((n : Node) (m : ℕ) → nodeAt s true b at ≡ done n m → u ≡ filled t k (map nodeRow (nodeEntriesOf n)))
-        → (before : List Node) (n : Node) (m : ℕ) → k ≡ nodeTotal before → nodeAt s true before at ≡ done n m
-        → (next ≡ m) × (u ≡ filled t k (map nodeRow (nodeEntriesOf n))) × (k + size ≡ k + length (map nodeRow (nodeEntriesOf n))) × (k + size ≡ nodeTotal (n ∷ before))
-    unfolding nodeEntriesOf
-    node-next {i} {size} {next} z rows before n m e d =
-        let f : Found {B = Element} nodeElement (nodeAt s true b at) (record { id = i; instances = size }) next = found nodeElement (nodeAt s true b at) z in
-        let w = node-same b before (sym counted ∙ e) (f .is) d in
-        let l : length (map nodeRow (nodeEntriesOf n)) ≡ length (n .instances) = length-map (nodeEntriesOf n) nodeRow ∙ length-map (n .instances) _ in
-        let v : size ≡ length (n .instances) = sym (ap (λ x. x .instances) (f .made)) ∙ ap (λ x. length (x .instances)) (w .0) in
-        let r : nodeAt s true b at ≡ done n m = f .is ∙ rw (w .0, w .1) in
-        (w .1, rows n m r, omega arith, omega (arith, nodes-more n before))
+  pub node-next : (t : Rows) (k : ℕ) {u : Rows} (b : List Node) → k ≡ nodeTotal b
+      → {i n next : ℕ} → _≡_ {A = Parsed Element} (done (record { id = i; instances = n }) next) (making nodeElement (nodeAt s true b at))
+      → ((n : Node) (m : ℕ) → nodeAt s true b at ≡ done n m → u ≡ filled t k (map nodeRow (nodeEntriesOf n)))
+      → (before : List Node) (a : Node) (m : ℕ) → k ≡ nodeTotal before → nodeAt s true before at ≡ done a m
+      → (next ≡ m) × (u ≡ filled t k (map nodeRow (nodeEntriesOf a))) × (k + n ≡ k + length (map nodeRow (nodeEntriesOf a))) × (k + n ≡ nodeTotal (a ∷ before))
+  unfolding nodeEntriesOf
+  node-next = element-next (nodeAt s true) nodeId (λ n. length (n .instances)) nodeTotal nodes-more (λ n. map nodeRow (nodeEntriesOf n)) (λ n. length-map (nodeEntriesOf n) nodeRow ∙ length-map (n .instances) _) at (λ b before e x y m n. node-same b before e)
 
 -- A register that was read had room.
 module _ (s : List ℕ) (at k : ℕ) where

@@ -4,3 +4,5 @@ pub mod FillingLaws
 pub mod ElementLaws
 pub mod PartsLaws
 pub mod RowsLaws
+pub mod RisingLaws
+pub mod NodeLaws

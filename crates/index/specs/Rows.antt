@@ -1,13 +1,15 @@
 -- The tables of a file: three columns, with a row for each register instance or node instance in file order.
-use Prim.Native.Nat.{ℕ, suc}
+use Prim.Native.Nat.{ℕ, suc, _+_, _≤_}
 use mathlib.Core.Bool.{true}
 use mathlib.Core.List.{List, [], _∷_}
 use mathlib.Core.Path.{_≡_}
-use lib.ListN.{set}
+use lib.ListN.{length, set}
 use Rattle.format.specs.Lookup.{RegisterEntry, NodeEntry}
 use Rattle.format.specs.RegisterLayout.{RegisterHead}
 use Rattle.format.specs.NodeLayout.{nodeInstanceAt}
-use Rattle.format.specs.Parsed.{done}
+use Rattle.format.specs.Fields.{typeAt, countAt}
+use Rattle.format.specs.Parsed.{Parsed, done, andThen, making, rowAt}
+use Rattle.format.specs.Tree.{Node}
 use Rattle.tables.specs.Kinds.{kindOf, wantedKind}
 use Rattle.tables.specs.Tables.{keyOf}
 use Rattle.index.specs.declared.Head as declared
@@ -33,6 +35,14 @@ unfoldable pub filled : Rows → ℕ → List Row → Rows
 filled t k [] = t
 filled t k (r ∷ rs) = filled (putRow t k r) (suc k) rs
 
+-- Two columns, without places.
+abbrev pub pair : List ℕ → List ℕ → Rows
+pair keys kinds = record { keys = keys; kinds = kinds; places = [] }
+
+-- Where two tables differ at all it is at places from one on, up to another: rows that are written over these places leave no difference.
+pub record Covered (t u : Rows) (from to : ℕ) : Type 0 where
+  pub over : (k : ℕ) (rows : List Row) → k ≤ from → to ≤ k + length rows → filled u k rows ≡ filled t k rows
+
 -- A row: the name of an instance, its kind, and a place.
 unfoldable pub rowOf : ℕ → ℕ → ℕ → ℕ → Row
 rowOf id kind number place = record { key = keyOf id number; kind = kind; place = place }
@@ -51,6 +61,12 @@ headOf h next = record { id = h .id; kind = h .type; code = kindOf (h .type) (h 
 
 abbrev pub instanceOf : ℕ → ℕ → ℕ → Instance
 instanceOf n p next = record { number = n; place = p; next = next }
+
+-- The rest of a node, after its ID; `total` instances stand in the nodes before.
+unfoldable pub nodeAfter : List ℕ → ℕ → ℕ → ℕ → Parsed Node
+nodeAfter s total i at =
+    andThen (typeAt s at) λ t a. andThen (countAt s a 1) λ n b.
+    making (λ is. record { id = i; type = t; instances = is }) (rowAt (nodeInstanceAt s true total) n [] b)
 
 -- A node instance is read again at its place.
 pub record ReadAgain (s : List ℕ) (e : NodeEntry) : Type 0 where

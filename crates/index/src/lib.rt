@@ -2,8 +2,8 @@
 ghost use mathlib.Core.Path.{_≡_};
 ghost use Rattle.index.specs.Rows.{Rows, putRow};
 
+pub mod addresses;
 pub mod node_rows;
-pub mod register_rows;
 
 // What a register or a node starts with, and the place after that.
 pub struct Head {

@@ -1,13 +1,13 @@
 -- The laws of the code that finds active bits and unread registers.
 use Prim.Native.Nat.{ℕ, zero, suc, _+_, _-_, _≤_, _<_}
 use mathlib.Core.Bool.{Bool, true, false, not, _||_}
-use mathlib.Core.List.{List, [], _∷_, map}
+use mathlib.Core.List.{List, [], _∷_}
 use mathlib.Core.Logic.{_⊎_, ⊎-elim}
 use mathlib.Core.Path.{_≡_, refl, sym, _∙_, ap, subst}
 use native.Mathlib.Numerals.{add-one}
 use native.Mathlib.Omega.{arith}
 use lib.Dec.{ltb}
-use lib.ListN.{length, getD, set}
+use lib.ListN.{length, getD}
 use borrow.Author.Tests.{eq-eqb, ne-eqb, le-ltb, lt-ltb}
 use Rattle.numbers.proofs.Bools.{clash}
 use Rattle.format.specs.ExpressionLayout.{exprAt}
@@ -15,14 +15,10 @@ use Rattle.format.specs.Limits.{levels}
 use Rattle.format.specs.Lookup.{some, at, gathered, NodeEntry}
 use Rattle.format.specs.Parsed.{done}
 use Rattle.format.specs.References.{Fault}
-use Rattle.format.specs.Rules.{Every}
 use Rattle.format.specs.Tree.{Expr, Rule}
 use Rattle.format.proofs.FaultsLaws.{below?}
 use Rattle.format.proofs.GatheredLaws.{gathered-one}
-use Rattle.tables.specs.Tables.{written}
-use Rattle.format.proofs.GatheredLaws.{gathered-each}
-use Rattle.reader.specs.Prepared.{expressionPlace}
-use Rattle.tables.proofs.WritingLaws.{Writing, writing-begin, writing-next, writing-end, one-written}
+use Rattle.reader.specs.Columns.{expressionPlace}
 use Rattle.evaluation.specs.declared.Value.{Value}
 use Rattle.evaluation.specs.Value.{faulty, firstPlace, valued}
 use Rattle.isolation.specs.declared.Activity.{Activity}
@@ -104,32 +100,6 @@ module _ (keys words read : List ℕ) (attention : ℕ) (e : NodeEntry) where
       let o = one-rule r (z .2) in
       (word-of (r .expression) d ∙ sym (o .0), place-of (r .expression) d ∙ sym (o .1)))
       (rule-cases (RuleAgain s) attention (e .instance) again)
-
--- The tables hold what the node instances before i give.
-pub record Filling (s rules keys words read a₀ a u₀ u : List ℕ) (i : ℕ) : Type 0 where
-  pub active : (attention : ℕ) → Writing (RulesAgain s) (λ e. expressionPlace (ruleFor attention (e .instance))) rules (λ e. activeWord keys words read attention e ∷ []) a₀ a i i
-  pub unread : (attention : ℕ) → Writing (RulesAgain s) (λ e. expressionPlace (ruleFor attention (e .instance))) rules (λ e. unreadPlace keys read attention e ∷ []) u₀ u i i
-
-module _ (s rules keys words read : List ℕ) where
-  pub filling-begin : (a u : List ℕ) → Filling s rules keys words read a a u u 0
-  filling-begin a u = record { active = λ attention. writing-begin _ _ _ _ a; unread = λ attention. writing-begin _ _ _ _ u }
-
-  module _ {a₀ a u₀ u : List ℕ} {i : ℕ} (f : Filling s rules keys words read a₀ a u₀ u i) where
-    pub filling-next : i < length rules → {x : Activity} {b v : List ℕ} → (getD rules i 0 ≡ 0 → x ≡ inactive)
-        → ((e : Expr) (m : ℕ) → (getD rules i 0 ≡ 0 → ⊥) → exprAt s levels (getD rules i 0) ≡ done e m → x ≡ activityOf keys words read e)
-        → b ≡ set a i (x .word) → v ≡ set u i (x .unread) → Filling s rules keys words read a₀ b u₀ v (i + 1)
-    filling-next h none some p q =
-        record {
-          active = λ attention. writing-next _ _ _ _ (f .active attention) h (λ e again w. one-written a i p (entry-active keys words read attention e s again w none some .0));
-          unread = λ attention. writing-next _ _ _ _ (f .unread attention) h (λ e again w. one-written u i q (entry-active keys words read attention e s again w none some .1));
-        }
-
-    module _ (h : length rules ≤ i) (attention : ℕ) (es : List NodeEntry) (again : Every (RulesAgain s) es) (e : rules ≡ map (λ e. expressionPlace (ruleFor attention (e .instance))) es) where
-      pub filling-active : a ≡ written a₀ 0 (map (activeWord keys words read attention) es)
-      filling-active = writing-end _ _ _ _ (f .active attention) h es again e ∙ ap (written a₀ 0) (gathered-each (activeWord keys words read attention) es)
-
-      pub filling-unread : u ≡ written u₀ 0 (map (unreadPlace keys read attention) es)
-      filling-unread = writing-end _ _ _ _ (f .unread attention) h es again e ∙ ap (written u₀ 0) (gathered-each (unreadPlace keys read attention) es)
 
 -- The first unread register of done node instances
 

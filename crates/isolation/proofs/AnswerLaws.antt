@@ -4,7 +4,7 @@ use mathlib.Core.Bool.{Bool, true, false, cond}
 use mathlib.Core.List.{List, [], _∷_, _++_, map}
 use mathlib.Core.Path.{_≡_, refl, sym, _∙_, ap, subst}
 use native.Mathlib.Omega.{arith}
-use lib.ListN.{length, getD, take, drop, length-map, List·getD-append}
+use lib.ListN.{length, getD, drop}
 use Rattle.numbers.specs.BigEndian.{Bytes}
 use Rattle.graph.specs.Chains.{reachedCount}
 use Rattle.format.specs.Fields.{knownAttention}
@@ -14,14 +14,13 @@ use Rattle.format.specs.Rules.{Meets}
 use Rattle.format.specs.Tree.{Root, Chip}
 use Rattle.format.specs.Verdict.{verdict}
 use Rattle.format.proofs.Acceptance.{acceptance, read-to-end}
-use Rattle.format.proofs.PositionsLaws.{every-at, inside-at}
-use Rattle.tables.specs.Tables.{keyOf, written}
-use Rattle.tables.proofs.TablesLaws.{written-front, written-take}
+use Rattle.format.proofs.PositionsLaws.{every-at}
+use Rattle.tables.specs.Tables.{keyOf}
 use Rattle.walk.specs.Marks.{finished}
 use Rattle.walk.specs.TableGraph.{tableSize, tableGraph}
 use Rattle.walk.proofs.WalkLaws.{steps-reached}
 use Rattle.tables.specs.Keys.{registerKeys, nodeKeys}
-use Rattle.reader.specs.Prepared.{childColumn}
+use Rattle.reader.specs.Columns.{childColumn}
 use Rattle.tables.proofs.ColumnLaws.{column-at}
 use Rattle.tables.proofs.KeysLaws.{nodes-fit}
 use Rattle.listing.specs.declared.Listing
@@ -39,20 +38,6 @@ use Rattle.isolation.proofs.GraphsLaws.{DoneReached, finished-done, row
 use Rattle.isolation.proofs.TablesLaws.{entries-few, act-size, root-in-tables, tables-listing, tables-count}
 use Rattle.isolation.proofs.UnreadLaws.{unread-none, unread-some}
 
--- Columns that were written to the front of a table
-
-module _ {E : Type 0} (f : E → ℕ) (es : List E) (t₀ t : List ℕ) (room : length es ≤ length t₀) (t-is : t ≡ written t₀ 0 (map f es)) where
-  fits-in : length (map f es) ≤ length t₀
-  fits-in = rw (length-map es f) room
-
-  pub column-front : (n : ℕ) → n ≡ length es → take n t ≡ map f es
-  column-front n e = ap (take n) t-is ∙ written-take t₀ (map f es) n (e ∙ sym (length-map es f)) fits-in
-
-  pub column-entry : (i : ℕ) (e : E) → at i es ≡ e ∷ [] → getD t i 0 ≡ f e
-  column-entry i e q =
-      let l : i < length (map f es) = rw (length-map es f) (inside-at i es q) in
-      ap (λ u. getD u i 0) (t-is ∙ written-front t₀ (map f es) fits-in) ∙ List·getD-append (map f es) (drop (length (map f es)) t₀) 0 i l ∙ column-at f es i q
-
 -- A node instance's key holds its ID and its number.
 key-id : (id number : ℕ) → id < 65536 → number < 256 → keyId (keyOf id number) ≡ id
 unfolding keyId keyOf
@@ -62,7 +47,7 @@ key-number : (id number : ℕ) → number < 256 → keyNumber (keyOf id number) 
 unfolding keyNumber keyOf
 key-number id number hn = omega arith
 
-keys-tell : (c : Chip) → Meets c → (nodes : List ℕ) → nodes ≡ nodeKeys c → (i : ℕ) (e : NodeEntry) → at i (nodeEntries c) ≡ e ∷ []
+pub keys-tell : (c : Chip) → Meets c → (nodes : List ℕ) → nodes ≡ nodeKeys c → (i : ℕ) (e : NodeEntry) → at i (nodeEntries c) ≡ e ∷ []
     → (keyId (getD nodes i 0) ≡ e .id) × (keyNumber (getD nodes i 0) ≡ e .instance .number)
 keys-tell c m nodes n i e q =
     let k : getD nodes i 0 ≡ keyOf (e .id) (e .instance .number) = ap (λ t. getD t i 0) n ∙ column-at (λ e. keyOf (e .id) (e .instance .number)) (nodeEntries c) i q in

@@ -8,5 +8,6 @@ pub mod UnreadLaws
 pub mod AnswerLaws
 pub mod SamplesHold
 pub mod SettleLaws
+pub mod ReachLaws
 pub mod RootLaws
-pub mod PreparedLaws
+pub mod ClassesLaws

@@ -18,14 +18,14 @@ use Rattle.format.specs.Tree.{Root}
 use Rattle.format.proofs.Acceptance.{verdict-meets}
 use Rattle.isolation.specs.Activity.{fitting}
 use Rattle.format.specs.Finding.{rootFor}
-use Rattle.reader.specs.Prepared.{rootPlace}
+use Rattle.reader.specs.Columns.{rootPlace}
 use Rattle.isolation.specs.Outcome.{refusedOutcome, isolate}
 use Rattle.isolation.specs.Ready.{Tabled, Ready}
 use Rattle.isolation.proofs.AnswerLaws.{type-refused, root-refused, readings-refused}
 use Rattle.format.proofs.FindingLaws.{first-none, first-some, root-inside}
 
-module _ (file : List ℕ) (bytes : Bytes file) (attention : ℕ) (words read list keys nodes rules children : List ℕ) (root : ℕ)
-    (t : Tabled file attention keys nodes rules children) (r : root ≡ rootPlace (t .chip) (rootFor attention (t .chip))) where
+module _ (file : List ℕ) (bytes : Bytes file) (attention : ℕ) (words read list keys index nodes places children : List ℕ) (root : ℕ)
+    (t : Tabled file keys index nodes places children) (r : root ≡ rootPlace (t .chip) (rootFor attention (t .chip))) where
   meets : Meets (t .chip)
   meets = verdict-meets file bytes (t .accepted)
 
@@ -90,7 +90,7 @@ module _ (file : List ℕ) (bytes : Bytes file) (attention : ℕ) (words read li
             let x = a-root l in
             readings-refused file attention words read list (t .chip) (t .end) (t .accepted) known (x .0) [] (x .1) (length keys) keys-length (sym fit ∙ e)
 
-        pub ready : b ≡ true → Ready file attention words read keys nodes rules children root
+        pub ready : b ≡ true → Ready file attention words read keys index nodes places children root
         ready e =
             let x = a-root l in
             record {

@@ -1,102 +1,126 @@
 -- What the code finds in the tables of an accepted file decides.
 use Prim.Native.Nat.{ℕ, _≤_, _<_}
-use mathlib.Core.List.{List, [], _∷_, map}
-use mathlib.Core.Path.{_≡_, refl, sym, _∙_, ap}
+use mathlib.Core.List.{List, [], _∷_}
+use mathlib.Core.Path.{_≡_, refl, sym, _∙_, ap, subst}
 use native.Mathlib.Omega.{arith}
-use lib.ListN.{length, take, getD, replicate, length-map, length-replicate}
+use lib.ListN.{length, getD, length-map}
 use Rattle.numbers.specs.BigEndian.{Bytes}
 use Rattle.format.specs.Lookup.{at, NodeEntry, registerEntries, nodeEntries}
 use Rattle.format.specs.Limits.{nodeLimit}
-use Rattle.format.specs.Parsed.{done}
-use Rattle.format.specs.Rules.{Every, Meets}
+use Rattle.format.specs.Rules.{Meets}
 use Rattle.format.specs.Tree.{Chip}
-use Rattle.format.specs.Verdict.{verdict}
-use Rattle.format.proofs.Acceptance.{acceptance, read-to-end, verdict-out}
-use Rattle.tables.specs.Tables.{written}
+use Rattle.format.proofs.Acceptance.{verdict-meets}
+use Rattle.format.proofs.FindingLaws.{first-out, root-inside}
+use Rattle.format.specs.Finding.{rootFor}
 use Rattle.tables.specs.Keys.{registerKeys}
-use Rattle.format.specs.Finding.{ruleFor}
-use Rattle.reader.specs.Prepared.{expressionPlace}
-use Rattle.reader.proofs.NameLaws.{few-registers}
+use Rattle.tables.proofs.ColumnLaws.{column-at}
 use Rattle.walk.specs.declared.Walked.{Walked}
 use Rattle.walk.specs.Marks.{finished}
 use Rattle.walk.specs.TableGraph.{tableSize, tableGraph}
 use Rattle.listing.specs.declared.Listing
 use Rattle.listing.specs.declared.Listing.{Listing}
-use Rattle.isolation.specs.Activity.{RulesAgain, activeWord, unreadPlace, firstUnread}
+use Rattle.isolation.specs.Activity.{unreadPlace, firstUnread, activeColumn, unreadColumn, SameDone}
 use Rattle.isolation.specs.Outcome.{refusedOutcome, doneOutcome, isolate}
-use Rattle.isolation.specs.Ready.{Tabled, Ready}
+use Rattle.isolation.specs.Ready.{Ready}
 use Rattle.listing.specs.Rows.{listingValues, listingFor, tableLinks, listAfter}
-use Rattle.isolation.proofs.AnswerLaws.{column-front, column-entry, unread-refused, room-refused, all-written}
-use Rattle.isolation.proofs.UnreadLaws.{entries-rules}
+use Rattle.isolation.proofs.AnswerLaws.{keys-tell, unread-refused, room-refused, all-written}
+use Rattle.isolation.proofs.GraphsLaws.{DoneReached, finished-done}
+use Rattle.isolation.proofs.ReachLaws.{links-same, list-same, first-same}
 
--- So few names as an accepted file has fit an index.
-pub keys-few : (file : List ℕ) → Bytes file → {attention : ℕ} {keys nodes rules children : List ℕ} → Tabled file attention keys nodes rules children → length keys < 65536
-keys-few file bytes {attention} {keys} t = few-registers file bytes (verdict-out file (t .accepted) .read) keys (t .keys-are)
-
-module _ (file : List ℕ) (bytes : Bytes file) (attention : ℕ) (words read list keys nodes rules children : List ℕ) (root : ℕ)
-    (ready : Ready file attention words read keys nodes rules children root) {n : ℕ} (n-is : n ≡ tableSize nodes) where
+module _ (file : List ℕ) (bytes : Bytes file) (attention : ℕ) (words read keys index nodes places children : List ℕ) (root : ℕ)
+    (ready : Ready file attention words read keys index nodes places children root) where
   abbrev chip : Chip
   chip = ready .tabled .chip
 
-  whole : verdict file ≡ done chip (length file)
-  whole = ready .tabled .accepted ∙ ap (done chip) (read-to-end file bytes (ready .tabled .accepted))
+  meets : Meets chip
+  meets = verdict-meets file bytes (ready .tabled .accepted)
 
-  pub few : length (nodeEntries chip) ≤ 256
+  few : length (nodeEntries chip) ≤ 256
   unfolding nodeLimit
-  few = let m : Meets chip = acceptance file bytes chip .0 whole .2 in m .limits .nodes
+  few = meets .limits .nodes
 
-  pub size-is : length nodes ≡ length (nodeEntries chip)
-  size-is = ap length (ready .tabled .nodes-are) ∙ length-map (nodeEntries chip) _
+  pub size-is : length places ≡ length (nodeEntries chip)
+  size-is = ap length (ready .tabled .places-are) ∙ length-map (nodeEntries chip) _
 
-  -- The walk knows all of them.
-  pub count-is : n ≡ length (nodeEntries chip)
-  unfolding tableSize
-  count-is = omega (arith, n-is, size-is, few)
+  inside : root < length (nodeEntries chip)
+  unfolding rootFor
+  inside =
+      let f = first-out _ (chip .roots) (ready .rooted) in
+      subst (λ x. x < length (nodeEntries chip)) (sym (ready .root-is)) (root-inside chip (meets .present) _ (f .0))
 
-  -- The tables that the code fills.
-  module _ {active unread : List ℕ}
-      (fa : (a : ℕ) (es : List NodeEntry) → Every (RulesAgain file) es → rules ≡ map (λ e. expressionPlace (ruleFor a (e .instance))) es → active ≡ written (replicate 256 0) 0 (map (activeWord keys words read a) es))
-      (fu : (a : ℕ) (es : List NodeEntry) → Every (RulesAgain file) es → rules ≡ map (λ e. expressionPlace (ruleFor a (e .instance))) es → unread ≡ written (replicate 256 0) 0 (map (unreadPlace keys read a) es)) where
-    room : length (nodeEntries chip) ≤ length (replicate {A = ℕ} 256 0)
-    room = rw (length-replicate {A = ℕ} 256 0) few
+  pub root-in : root < length places
+  root-in = omega (arith, inside, size-is)
 
-    active-is : take (n) active ≡ map (activeWord (registerKeys chip) words read attention) (nodeEntries chip)
-    active-is =
-        column-front (activeWord (registerKeys chip) words read attention) (nodeEntries chip) (replicate 256 0) active room
-        (fa attention (nodeEntries chip) (entries-rules file bytes chip whole) (ready .tabled .rules-are)
-        ∙ ap (λ k. written (replicate 256 0) 0 (map (activeWord k words read attention) (nodeEntries chip))) (ready .tabled .keys-are))
-        (n) count-is
+  abbrev whole : List ℕ
+  whole = activeColumn (registerKeys chip) words read attention chip
 
-    unread-is : (i : ℕ) (e : NodeEntry) → at i (nodeEntries chip) ≡ e ∷ [] → getD unread i 0 ≡ unreadPlace (registerKeys chip) read attention e
-    unread-is =
-        column-entry (unreadPlace (registerKeys chip) read attention) (nodeEntries chip) (replicate 256 0) unread room
-        (fu attention (nodeEntries chip) (entries-rules file bytes chip whole) (ready .tabled .rules-are)
-        ∙ ap (λ k. written (replicate 256 0) 0 (map (unreadPlace k read attention) (nodeEntries chip))) (ready .tabled .keys-are))
+  whole-length : length whole ≡ length (nodeEntries chip)
+  whole-length = length-map (nodeEntries chip) _
 
-    module _ {w : Walked} (walked : w ≡ finished (tableGraph (take (n) active) children) root) where
-      pub settled-unread : {p : ℕ} → p ≡ firstUnread (w .marks) unread (n) → (p ≡ 0 → ⊥) → refusedOutcome 18 p list ≡ isolate file attention words read list
+  whole-size : tableGraph whole children .size ≡ length (nodeEntries chip)
+  unfolding tableGraph tableSize
+  whole-size = omega (arith, whole-length, few)
+
+  unread-is : (i : ℕ) (e : NodeEntry) → at i (nodeEntries chip) ≡ e ∷ [] → getD (unreadColumn (registerKeys chip) read attention chip) i 0 ≡ unreadPlace (registerKeys chip) read attention e
+  unread-is i e q = column-at (unreadPlace (registerKeys chip) read attention) (nodeEntries chip) i q
+
+  -- The walk.
+  module _ {w : Walked} (is : w ≡ finished (tableGraph (activeColumn keys words read attention chip) children) root) where
+    walked : w ≡ finished (tableGraph whole children) root
+    walked = is ∙ ap (λ k. finished (tableGraph (activeColumn k words read attention chip) children) root) (ready .tabled .keys-are)
+
+    root-inside-graph : root < tableGraph whole children .size
+    root-inside-graph = omega (arith, inside, whole-size)
+
+    done : DoneReached (tableGraph whole children) root (w .marks)
+    done =
+        subst (λ x. DoneReached (tableGraph whole children) root (x .marks)) (sym walked)
+        (finished-done (tableGraph whole children) root root-inside-graph (omega (arith, whole-size, few)))
+
+    -- The places of unread registers that it fills.
+    module _ (list unread : List ℕ) (gaps : SameDone (w .marks) unread (unreadColumn keys read attention chip)) where
+      places-done : SameDone (w .marks) unread (unreadColumn (registerKeys chip) read attention chip)
+      places-done = subst (λ k. SameDone (w .marks) unread (unreadColumn k read attention chip)) (ready .tabled .keys-are) gaps
+
+      first-is : {p : ℕ} → p ≡ firstUnread (w .marks) unread (length places) → p ≡ firstUnread (w .marks) (unreadColumn (registerKeys chip) read attention chip) (length places)
+      first-is d = d ∙ first-same (w .marks) unread _ places-done (length places)
+
+      pub settled-unread : {p : ℕ} → p ≡ firstUnread (w .marks) unread (length places) → (p ≡ 0 → ⊥) → refusedOutcome 18 p list ≡ isolate file attention words read list
       settled-unread d e =
           let t = ready .tabled in
           unread-refused file attention words read list chip (t .end) (t .accepted) (ready .known) (ready .first) (ready .others) (ready .rooted) (length (registerEntries chip)) refl
-          bytes (ready .fits) root (ready .root-is) (take (n) active) children (t .rest) active-is (t .children-are) unread unread-is (w .marks) (ap (λ x. x .marks) walked) (n) count-is d e
+          bytes (ready .fits) root (ready .root-is) whole children (t .rest) refl (t .children-are) _ unread-is (w .marks) (ap (λ x. x .marks) walked) (length places) size-is (first-is d) e
 
-      module _ {p : ℕ} (d : p ≡ firstUnread (w .marks) unread (n)) (z : p ≡ 0) {l : Listing} (l-is : listingValues l ≡ listingFor (length (tableLinks (w .marks) (take (n) active) children)) (length list)) where
-        pub settled-room : {count : ℕ} → l ≡ Listing.NoRoom count → {new : List ℕ}
-            → new ≡ listAfter attention nodes (w .marks) (take (n) active) children list
+      -- And the words of active bits.
+      module _ (active : List ℕ) (la : length active ≡ length places) (same : SameDone (w .marks) active (activeColumn keys words read attention chip)) {p : ℕ}
+          (d : p ≡ firstUnread (w .marks) unread (length places)) (z : p ≡ 0) (l : Listing) (l-is : listingValues l ≡ listingFor (length (tableLinks (w .marks) active children)) (length list)) where
+        words-done : SameDone (w .marks) active whole
+        words-done = subst (λ k. SameDone (w .marks) active (activeColumn k words read attention chip)) (ready .tabled .keys-are) same
+
+        lengths : length whole ≡ length active
+        lengths = omega (arith, whole-length, la, size-is)
+
+        l-whole : listingValues l ≡ listingFor (length (tableLinks (w .marks) whole children)) (length list)
+        l-whole = l-is ∙ ap (λ x. listingFor (length x) (length list)) (links-same whole active children lengths root root-inside-graph (w .marks) done words-done)
+
+        after : {new : List ℕ} → new ≡ listAfter attention nodes (w .marks) active children list → new ≡ listAfter attention nodes (w .marks) whole children list
+        after h =
+            h ∙ list-same whole active children lengths root root-inside-graph (w .marks) done words-done chip attention nodes whole-size (keys-tell chip meets nodes (ready .tabled .nodes-are)) list
+
+        pub settled-room : {count : ℕ} → l ≡ Listing.NoRoom count → {new : List ℕ} → new ≡ listAfter attention nodes (w .marks) active children list
             → refusedOutcome 19 count new ≡ isolate file attention words read list
         settled-room e h =
             let t = ready .tabled in
             room-refused file attention words read list chip (t .end) (t .accepted) (ready .known) (ready .first) (ready .others) (ready .rooted) (length (registerEntries chip)) refl
-            bytes (ready .fits) root (ready .root-is) (take (n) active) children (t .rest) active-is (t .children-are) unread unread-is (w .marks) (ap (λ x. x .marks) walked) (n) count-is
-            (sym d ∙ z) nodes (t .nodes-are) l l-is e h
+            bytes (ready .fits) root (ready .root-is) whole children (t .rest) refl (t .children-are) _ unread-is (w .marks) (ap (λ x. x .marks) walked) (length places) size-is
+            (sym (first-is d) ∙ z) nodes (t .nodes-are) l l-whole e (after h)
 
-        pub settled-written : {count : ℕ} → l ≡ Listing.Written count → {new : List ℕ}
-            → new ≡ listAfter attention nodes (w .marks) (take (n) active) children list
+        pub settled-written : {count : ℕ} → l ≡ Listing.Written count → {new : List ℕ} → new ≡ listAfter attention nodes (w .marks) active children list
             → doneOutcome count (w .steps) new ≡ isolate file attention words read list
         settled-written {count} e {new} h =
             let t = ready .tabled in
-            let s : w .steps ≡ finished (tableGraph (take (n) active) children) root .steps = ap (λ x. x .steps) walked in
+            let s : w .steps ≡ finished (tableGraph whole children) root .steps = ap (λ x. x .steps) walked in
             ap (λ x. doneOutcome count x new) s
             ∙ all-written file attention words read list chip (t .end) (t .accepted) (ready .known) (ready .first) (ready .others) (ready .rooted) (length (registerEntries chip)) refl
-            bytes (ready .fits) root (ready .root-is) (take (n) active) children (t .rest) active-is (t .children-are) unread unread-is (w .marks) (ap (λ x. x .marks) walked) (n) count-is
-            (sym d ∙ z) nodes (t .nodes-are) l l-is e h
+            bytes (ready .fits) root (ready .root-is) whole children (t .rest) refl (t .children-are) _ unread-is (w .marks) (ap (λ x. x .marks) walked) (length places) size-is
+            (sym (first-is d) ∙ z) nodes (t .nodes-are) l l-whole e (after h)

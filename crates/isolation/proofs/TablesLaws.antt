@@ -27,7 +27,7 @@ use Rattle.format.proofs.PositionsLaws.{at-inside, every-at, some-one}
 use Rattle.walk.specs.TableGraph.{tableSize, childAt, tableGraph}
 use Rattle.walk.proofs.Tables.{table-sound}
 use Rattle.tables.specs.Keys.{registerKeys}
-use Rattle.reader.specs.Prepared.{positionOr, childPlaces, childColumn}
+use Rattle.reader.specs.Columns.{positionOr, childPlaces, childColumn}
 use Rattle.reader.proofs.ChildPlacesLaws.{row-length, row-place}
 use Rattle.tables.proofs.ColumnLaws.{column-at, rows-place}
 use Rattle.tables.proofs.KeysLaws.{Fitting, names-fit, register-position-in}

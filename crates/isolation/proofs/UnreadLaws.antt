@@ -27,7 +27,7 @@ use Rattle.format.proofs.PlacesLaws.{entries-stand, rules-again}
 use Rattle.format.proofs.PositionsLaws.{at-inside, every-at}
 use Rattle.walk.specs.TableGraph.{tableGraph}
 use Rattle.tables.specs.Keys.{registerKeys}
-use Rattle.reader.specs.Prepared.{childColumn}
+use Rattle.reader.specs.Columns.{childColumn}
 use Rattle.evaluation.specs.Value.{firstPlace}
 use Rattle.isolation.specs.ChipGraph.{ruleUnread, chipGraph}
 use Rattle.isolation.specs.Outcome.{Outcome, refusedOutcome, entryUnread, reachedUnread, allRead}

@@ -1,18 +1,18 @@
 -- What the node instances' rules for an attention type give with readings, by a table of the register instances' keys.
 use Prim.Native.Nat.{ℕ, zero, suc}
 use mathlib.Core.Bool.{Bool, cond, not, _&&_}
-use mathlib.Core.List.{List, [], _∷_}
+use mathlib.Core.List.{List, [], _∷_, map}
 use mathlib.Core.Path.{_≡_}
 use lib.Dec.{ltb, eqb}
 use lib.ListN.{length, getD}
 use Rattle.format.specs.ExpressionLayout.{exprAt}
 use Rattle.format.specs.Limits.{levels}
-use Rattle.format.specs.Lookup.{some, gathered, NodeEntry}
+use Rattle.format.specs.Lookup.{some, gathered, NodeEntry, nodeEntries}
 use Rattle.format.specs.Meaning.{valueWithin}
 use Rattle.format.specs.Parsed.{done}
 use Rattle.format.specs.References.{Fault, namedBy}
 use Rattle.format.specs.Rules.{Every}
-use Rattle.format.specs.Tree.{Expr, Rule}
+use Rattle.format.specs.Tree.{Expr, Rule, Chip}
 use Rattle.evaluation.specs.Value.{wordIn, unreadIn, faulty, firstPlace}
 use Rattle.isolation.specs.declared.Activity.{Activity}
 use Rattle.format.specs.Finding.{ruleFor}
@@ -68,3 +68,16 @@ firstUnread marks unread (suc n) = cond (eqb (firstUnread marks unread n) 0) (un
 -- Both lists of readings have m entries, and every read byte is 0 or 1.
 unfoldable pub fitting : ℕ → List ℕ → List ℕ → Bool
 fitting m words read = eqb (length words) m && (eqb (length read) m && not (some (ltb 1) read))
+
+-- Columns
+
+-- The words of active bits of all node instances, and the places of their first readings without a value.
+abbrev pub activeColumn : List ℕ → List ℕ → List ℕ → ℕ → Chip → List ℕ
+activeColumn keys words read attention c = map (activeWord keys words read attention) (nodeEntries c)
+
+abbrev pub unreadColumn : List ℕ → List ℕ → ℕ → Chip → List ℕ
+unreadColumn keys read attention c = map (unreadPlace keys read attention) (nodeEntries c)
+
+-- Two tables hold the same for every done node instance.
+abbrev pub SameDone : List ℕ → List ℕ → List ℕ → Type 0
+SameDone marks t u = (i : ℕ) → getD marks i 0 ≡ 2 → getD t i 0 ≡ getD u i 0

@@ -1,8 +1,8 @@
 -- The whole answer of isolation: number and place, or records and steps; and the list's bytes after the call.
 use Prim.Native.Nat.{ℕ, _*_, _/_}
-use mathlib.Core.Bool.{cond}
+use mathlib.Core.Bool.{Bool, true, cond, not}
 use mathlib.Core.List.{List, [], _∷_, _++_}
-use lib.Dec.{leb}
+use lib.Dec.{eqb, leb}
 use lib.ListN.{length, drop}
 use Rattle.graph.specs.Chains.{Graph, below, reachedFrom, reachedCount}
 use Rattle.format.specs.Fields.{knownAttention}
@@ -37,6 +37,11 @@ doneOutcome r s list = record { number = 0; place = 0; records = r; steps = s; l
 abbrev pub outcomeOf : Isolated → List ℕ → Outcome
 outcomeOf (Isolated.Done i) list = doneOutcome (i .records) (i .steps) list
 outcomeOf (Isolated.Refused r) list = refusedOutcome (numberOf (r .kind)) (r .place) list
+
+-- An answer that is not 43, which says that a table of the code was too short.
+unfoldable pub isExact : Isolated → Bool
+isExact (Isolated.Done i) = true
+isExact (Isolated.Refused r) = not (eqb (numberOf (r .kind)) 43)
 
 -- 18: "a reached instance's wanted rule names an unread register": all of these, instances in file order.
 unfoldable pub entryUnread : Chip → ℕ → List ℕ → NodeEntry → List Fault

@@ -2,26 +2,20 @@
 use crate::Activity;
 use evaluation::value_at;
 use tables::entry;
-use tables::put;
 ghost use Prim.Native.Nat.{ℕ};
 ghost use mathlib.Core.Bool.{not};
-ghost use mathlib.Core.List.{List, map};
 ghost use mathlib.Core.Path.{_≡_};
 ghost use lib.Dec.{ltb};
 ghost use Rattle.format.specs.ExpressionLayout.{exprAt};
 ghost use Rattle.format.specs.Limits.{levels};
-ghost use Rattle.format.specs.Lookup.{some, NodeEntry};
+ghost use Rattle.format.specs.Lookup.{some};
 ghost use Rattle.format.specs.Parsed.{done};
-ghost use Rattle.format.specs.Rules.{Every};
 ghost use Rattle.format.specs.Tree.{Expr};
-ghost use Rattle.format.specs.Finding.{ruleFor};
-ghost use Rattle.reader.specs.Prepared.{expressionPlace};
 ghost use Rattle.tables.specs.Indexed.{IndexOf};
-ghost use Rattle.tables.specs.Tables.{written};
-ghost use Rattle.isolation.specs.Activity.{activeWord, unreadPlace, activityOf, inactive, RulesAgain, unreadAt, firstUnread, fitting};
+ghost use Rattle.isolation.specs.Activity.{activityOf, inactive, unreadAt, firstUnread, fitting};
 
 // What the rule whose expression stands at a place gives; 0 is the place of no rule. It reads each byte of the expression once.
-fn active_at(
+pub fn active_at(
     s: &[u8],
     at: usize,
     index: &[u16],
@@ -48,32 +42,6 @@ fn active_at(
     Activity {
         word: v.word,
         unread: 0,
-    }
-}
-
-// The active bits of each node instance from the front of `active` on, and the place of the first reading without a value in its rule from the front of `unread` on;
-// `rules` are the places of the rules' expressions. It reads each of these expressions once, and looks up each register that they name once.
-pub fn fill_active(
-    s: &[u8],
-    rules: &[u64],
-    index: &[u16],
-    keys: &[u64],
-    words: &[u64],
-    read: &[u8],
-    active: &mut [u64],
-    unread: &mut [u64],
-)
-    ensures { λ r. ⌜ (IndexOf (now (index .entry)) (now (keys .entry)) → (attention : ℕ) (es : List NodeEntry) → Every (RulesAgain (now (s .entry))) es → now (rules .entry) ≡ map (λ e. expressionPlace (ruleFor attention (e .instance))) es
-        → now (active .exit) ≡ written (now (active .entry)) 0 (map (activeWord (now (keys .entry)) (now (words .entry)) (now (read .entry)) attention) es)) ⌝ }
-    ensures { λ r. ⌜ (IndexOf (now (index .entry)) (now (keys .entry)) → (attention : ℕ) (es : List NodeEntry) → Every (RulesAgain (now (s .entry))) es → now (rules .entry) ≡ map (λ e. expressionPlace (ruleFor attention (e .instance))) es
-        → now (unread .exit) ≡ written (now (unread .entry)) 0 (map (unreadPlace (now (keys .entry)) (now (read .entry)) attention) es)) ⌝ }
-{
-    let mut i = 0;
-    while i < rules.len() {
-        let a = active_at(s, rules[i] as usize, index, keys, words, read);
-        put(active, i, a.word);
-        put(unread, i, a.unread as u64);
-        i += 1;
     }
 }
 

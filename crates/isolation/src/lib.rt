@@ -1,13 +1,15 @@
 // Isolation: which error bits are active, from a chip data file and register readings.
-use crate::answer::answer;
-use format::Checked;
+use crate::answer::is_exact;
+use crate::classes::isolate_larger;
+use crate::classes::isolate_small;
 use format::Refusal;
-use reader::prepare::prepare;
 ghost use mathlib.Core.Path.{_≡_};
 ghost use Rattle.isolation.specs.Outcome.{outcomeOf, isolate};
 
 mod active;
-mod answer;
+pub mod answer;
+mod classes;
+mod reach;
 
 // How many records were written, and how many node instances were reached.
 pub struct Isolation {
@@ -27,42 +29,17 @@ pub enum Isolated {
     Refused(Refusal),
 }
 
-// Isolation: the records of the active bits that are reached from the wanted root and have no child, or a child that shows nothing, in the lent list; how many they are, and how many node instances were reached. Or a refusal, and the list keeps its bytes. The words and the read bytes stand in the register instances' file order.
+// Isolation: the records of the active bits that are reached from the wanted root and have no child, or a child that shows nothing, in the lent list; how many they are, and how many node instances were reached. Or a refusal, and the list keeps its bytes. The words and the read bytes stand in the register instances' file order. It takes the tables that most files of such a length fit, and larger ones where they are too short.
 pub fn isolate(file: &[u8], attention: u8, words: &[u64], read: &[u8], list: &mut [u8]) -> Isolated
     ensures { λ r. ⌜ outcomeOf r (now (list .exit))
         ≡ isolate (now (file .entry)) attention (now (words .entry)) (now (read .entry)) (now (list .entry)) ⌝ }
 {
-    let mut keys = [0u64; format::REGISTER_LIMIT];
-    let mut nodes = [0u64; format::NODE_LIMIT];
-    let mut rules = [0u64; format::NODE_LIMIT];
-    let mut children = [0u16; 16384];
-    let mut root = [0u64; 1];
-    let c = prepare(
-        file,
-        attention,
-        &mut keys,
-        &mut nodes,
-        &mut rules,
-        &mut children,
-        &mut root,
-    );
-    match c {
-        Checked::Accepted(s) => {
-            let m = s.register_instances;
-            let n = s.node_instances;
-            answer(
-                file,
-                attention,
-                words,
-                read,
-                list,
-                root[0] as usize,
-                &keys[..m],
-                &nodes[..n],
-                &rules[..n],
-                &children,
-            )
-        }
-        Checked::Refused(r) => Isolated::Refused(r),
+    if 256 < file.len() {
+        return isolate_larger(file, attention, words, read, list);
     }
+    let i = isolate_small(file, attention, words, read, list);
+    if is_exact(i) {
+        return i;
+    }
+    isolate_larger(file, attention, words, read, list)
 }

@@ -1,19 +1,22 @@
 -- The laws of a node instance's children in a table.
 use Prim.Native.Nat.{ℕ, zero, suc, _+_, _-_, _≤_, _<_}
 use mathlib.Core.Bool.{true}
-use mathlib.Core.List.{List, [], _∷_}
+use mathlib.Core.List.{List, [], _∷_, append-nil, append-assoc}
 use mathlib.Core.Path.{_≡_, refl, sym, _∙_, ap}
 use native.Mathlib.Numerals.{add-one, sub-one}
 use native.Mathlib.Omega.{arith}
 use borrow.Author.Tests.{ltb-true}
-use lib.ListN.{length, set, length-set, length-replicate}
-use lib.Seq.{set-set, set-comm}
+use borrow.Rule.Slice.PartMut.{midOf, putMid}
+use lib.ListN.{length, drop, set, length-set, length-replicate, length-drop, replicate-append-replicate, drop-of-length-le}
+use lib.Seq.{set-set, set-comm, sets, sets-eq, length-take-le, drop-drop}
 use Rattle.format.specs.NodeLayout.{childAt}
 use Rattle.format.specs.Parsed.{done, rowAt}
 use Rattle.format.specs.Rules.{Every}
 use Rattle.format.specs.Tree.{Child, NodeInstance}
 use Rattle.format.proofs.ParsedLaws.{then-out, making-out, requiring-out}
 use Rattle.tables.specs.Tables.{written}
+use Rattle.tables.proofs.TablesLaws.{written-front, written-append, written-length}
+use Rattle.tables.proofs.WritingLaws.{written-beyond}
 use Rattle.index.proofs.RowsLaws.{row-every}
 use Rattle.links.specs.Links.{childNumber, childrenPut, childless, childRow}
 
@@ -48,6 +51,40 @@ pub cleared-end : (t : List ℕ) (p left : ℕ) → left ≤ 0 → written t p (
 unfolding childless written
 cleared-end t p zero h = refl
 cleared-end t p (suc n) h = absurd (omega arith)
+
+-- A whole table, place after place.
+
+pub cleared-whole : (t : List ℕ) → written t 0 (childless (length t - 0)) ≡ childless (length t)
+cleared-whole t =
+    let e : length t - 0 ≡ length t = omega arith in
+    let l : length (childless (length t)) ≡ length t = childless-length (length t) in
+    rw (e, written-front t (childless (length t)) (omega arith), drop-of-length-le t {i = length (childless (length t))} (omega arith)) (append-nil _)
+
+pub cleared-on : (t : List ℕ) (p n : ℕ) {u : List ℕ} → u ≡ set t p 0xFFFF → p < n → written u (p + 1) (childless (n - (p + 1))) ≡ written t p (childless (n - p))
+cleared-on t p n {u} e h =
+    ap (λ k. written u (p + 1) (childless k)) (let d : n - (p + 1) ≡ n - p - 1 = omega arith in d) ∙ cleared-next t p (n - p) e (omega arith)
+
+-- A part of a table, within it and up to its end.
+
+written-sets : (t : List ℕ) (k : ℕ) (xs : List ℕ) → written t k xs ≡ sets t k xs
+unfolding written
+written-sets t k [] = refl
+written-sets t k (x ∷ xs) = written-sets (set t k x) (suc k) xs
+
+pub cleared-part : (t : List ℕ) (k n : ℕ) {u : List ℕ} → k + n ≤ length t → u ≡ childless (length (midOf k n t)) → putMid k n t u ≡ written t k (childless n)
+cleared-part t k n h e =
+    let l : length (childless n) ≡ n = childless-length n in
+    let d : length (drop k t) ≡ length t - k = length-drop k t in
+    let m : length (midOf k n t) ≡ n = length-take-le n (drop k t) (omega arith) in
+    let z : k + length (childless n) ≡ k + n = omega arith in
+    rw (e, m, drop-drop n k t) (sym (written-sets t k (childless n) ∙ sets-eq (childless n) t k (omega arith) ∙ rw (z, append-assoc)))
+
+pub cleared-most : (t : List ℕ) (k m n : ℕ) → length t ≤ k + m → m ≤ n → written t k (childless m) ≡ written t k (childless n)
+unfolding childless
+cleared-most t k m n h l =
+    let e : m + (n - m) ≡ n = omega arith in
+    let b : length (written t k (childless m)) ≤ k + length (childless m) = omega (arith, written-length t k (childless m), childless-length m) in
+    sym (rw (← e, ← replicate-append-replicate {A = ℕ} m (n - m) 0xFFFF) (written-append t k (childless m) (childless (n - m)) ∙ written-beyond _ _ _ b))
 
 -- Children in a table.
 

@@ -6,19 +6,15 @@ use fields::byte_at;
 use nodes::InstanceHeadRead;
 use nodes::captures_at;
 use nodes::instance_head_at;
-use tables::put;
 ghost use Prim.Native.Nat.{ℕ, _+_};
 ghost use mathlib.Core.Bool.{true};
-ghost use mathlib.Core.List.{List, [], map};
+ghost use mathlib.Core.List.{List, []};
 ghost use mathlib.Core.Path.{_≡_};
-ghost use lib.ListN.{set};
-ghost use Rattle.format.specs.Lookup.{NodeEntry};
+ghost use lib.ListN.{length, set};
 ghost use Rattle.format.specs.NodeLayout.{ruleAt, nodeInstanceAt};
 ghost use Rattle.format.specs.Parsed.{done, rowAt};
-ghost use Rattle.format.specs.Rules.{Every};
 ghost use Rattle.format.specs.Tree.{Rule, NodeInstance};
 ghost use Rattle.tables.specs.Tables.{written};
-ghost use Rattle.index.specs.Rows.{ReadAgain};
 ghost use Rattle.links.specs.Links.{rulePlace, childless};
 
 // The place of the expression of the first of so many rules that is for an attention type; 0 where there is none. It reads each byte of the rules before it once.
@@ -74,22 +70,6 @@ pub fn rule_place(s: &[u8], at: usize, attention: u8) -> usize
     }
 }
 
-// The place of each node instance's rule for an attention type, from the front of `rules` on; `places` are the places of the instances. It passes over
-// the captures of each instance, and reads its rules at most once.
-pub fn fill_rules(s: &[u8], places: &[u64], attention: u8, rules: &mut [u64])
-    ensures { λ r. ⌜ ((es : List NodeEntry)
-        → Every (ReadAgain (now (s .entry))) es
-        → now (places .entry) ≡ map (λ e. e .instance .place) es
-        → now (rules .exit) ≡ written (now (rules .entry)) 0 (map (λ e. rulePlace attention (e .instance .rules)) es)) ⌝ }
-{
-    let mut i = 0;
-    while i < places.len() {
-        let place = rule_place(s, places[i] as usize, attention);
-        put(rules, i, place as u64);
-        i += 1;
-    }
-}
-
 // A number at a place of a table; a table without the place keeps what it has.
 fn put_child(table: &mut [u16], k: usize, x: u16)
     ensures { λ r. ⌜ now (table .exit) ≡ set (now (table .entry)) k x ⌝ }
@@ -108,6 +88,17 @@ pub fn put_link(child: &mut [u16], k: usize, bit: u8, x: u16)
     }
 }
 
+// Every place of a part of a table of children, without a child. It writes each once.
+fn fill(part: &mut [u16])
+    ensures { λ r. ⌜ now (part .exit) ≡ childless (length (now (part .entry))) ⌝ }
+{
+    let mut i = 0;
+    while i < part.len() {
+        part[i] = 0xFFFF;
+        i += 1;
+    }
+}
+
 // So many places of a table of children from place k on, without a child. It writes each once.
 pub fn clear(child: &mut [u16], k: usize, n: u8)
     ensures { λ r. ⌜ now (child .exit) ≡ written (now (child .entry)) k (childless n) ⌝ }
@@ -115,11 +106,12 @@ pub fn clear(child: &mut [u16], k: usize, n: u8)
     if child.len() <= k {
         return;
     }
-    let mut left = n;
-    let mut place = k;
-    while 0 < left {
-        put_child(child, place, 0xFFFF);
-        place += 1;
-        left -= 1;
+    let room = child.len() - k;
+    let count = n as usize;
+    if room < count {
+        fill(&mut child[k..]);
+        return;
     }
+    let end = k + count;
+    fill(&mut child[k..end]);
 }

@@ -4,14 +4,15 @@ use mathlib.Core.Path.{_≡_, refl, sym, _∙_, ap}
 use mathlib.Core.Bool.{true}
 use mathlib.Core.List.{List, [], _∷_, map}
 use native.Mathlib.Omega.{arith}
-use borrow.Author.Tests.{ltb-true}
+use borrow.Author.Tests.{leb-true, ltb-true}
 use lib.ListN.{length}
-use lib.Dec.{ltb}
+use lib.Dec.{leb, ltb}
 use Rattle.numbers.specs.Field.{field}
+use Rattle.numbers.proofs.Bools.{and-right}
 use Rattle.format.specs.declared.Refusal.{Refusal}
 use Rattle.format.specs.Limits.{nodeLimit, levels}
 use Rattle.format.specs.Parsed.{Parsed, done, refused, andThen, making, requiring, rowAt}
-use Rattle.format.specs.Fields.{fieldAt, countAt, typeAt, attentionAt, fresh}
+use Rattle.format.specs.Fields.{fieldAt, countAt, typeAt, knownAttention, attentionAt, fresh}
 use Rattle.format.specs.ExpressionLayout.{exprAt}
 use Rattle.format.specs.Tree.{Capture, Rule, Child, NodeInstance, Node}
 use Rattle.format.specs.NodeLayout.{NodeHead, InstanceHead, captureAt, ruleAt, childAt, instanceHeadAt, nodeInstanceAt, nodeTotal, nodeHeadAt, nodeAt}
@@ -25,7 +26,7 @@ use Rattle.fields.specs.Seen.{unmarked, newAfter, instanceNumberAt, Tells}
 use Rattle.nodes.specs.Nodes.{childBitAt, countsAt, nodeBodyAt}
 use Rattle.fields.specs.Views.{Element, refusedBy, forget}
 use Rattle.nodes.specs.Nodes.{nodeHeadParsed, instanceHeadParsed, ruleAttention, childBit, nodeNumber, nodeId, nodeElement}
-use Rattle.format.proofs.ParsedLaws.{then-in, making-in}
+use Rattle.format.proofs.ParsedLaws.{then-in, then-out, making-in, making-out, requiring-out}
 use Rattle.fields.proofs.FieldLaws.{field-there}
 use Rattle.fields.proofs.Parsing.{Found, found, followed, passed, making-making, row-end, row-step, row-length, row-bound}
 use Rattle.fields.proofs.Steps.{goes-making, stops-making}
@@ -71,6 +72,32 @@ pub child-told : (g : Child → ℕ) (s : List ℕ) (before : List Child) (at : 
     → y ≡ making g (childAt s true before at)
 unfolding childAt childBitAt
 child-told g s before at table t k = rw (← tells-is t) k
+
+-- The attention type of a rule is at most 5, and the bit of a child at most 63.
+pub rule-few : (s : List ℕ) (before : List Rule) (at : ℕ) {v m : ℕ} → done v m ≡ making ruleAttention (ruleAt s true before at) → v < 6
+unfolding ruleAt attentionAt knownAttention
+rule-few s before at {v} e =
+    let f = making-out _ _ (sym e) in
+    let t = then-out _ _ (f .1) in
+    let g = making-out _ _ (t .3) in
+    let a = requiring-out _ _ _ _ (t .2) in
+    let k = requiring-out _ _ _ _ (a .0) in
+    let w : t .0 ≡ v = ap ruleAttention (g .2) ∙ f .2 in
+    let h : t .0 ≤ 5 = leb-true (t .0) 5 (and-right (leb 1 (t .0)) (leb (t .0) 5) (k .1)) in
+    omega (arith, h, w)
+
+pub child-few : (s : List ℕ) (before : List Child) (at : ℕ) {v m : ℕ} → done v m ≡ making childBit (childAt s true before at) → v < 64
+unfolding childAt
+child-few s before at {v} e =
+    let f = making-out _ _ (sym e) in
+    let t = then-out _ _ (f .1) in
+    let u = then-out _ _ (t .3) in
+    let g = making-out _ _ (u .3) in
+    let a = requiring-out _ _ _ _ (t .2) in
+    let k = requiring-out _ _ _ _ (a .0) in
+    let w : t .0 ≡ v = ap childBit (g .2) ∙ f .2 in
+    let h : t .0 < 64 = ltb-true (t .0) 64 (k .1) in
+    omega (arith, h, w)
 
 -- The head of an instance after those that the marks tell of.
 pub head-told : (s : List ℕ) (numbers : List ℕ) (begun at : ℕ) (table : List ℕ) {y : Parsed InstanceHead} → Tells (unmarked table) numbers

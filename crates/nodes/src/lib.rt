@@ -128,7 +128,7 @@ fn rule_at(s: &[u8], at: usize, seen: &[u8]) -> ByteRead
 fn rules_at(s: &[u8], at: usize, n: u8) -> NextRead
     ensures { λ r. ⌜ nextParsed r ≡ forget (rowAt (ruleAt (now (s .entry)) true) n [] at) ⌝ }
 {
-    let mut seen = [0u8; 256];
+    let mut seen = [0u8; 6];
     let mut left = n;
     let mut place = at;
     while 0 < left {
@@ -201,7 +201,7 @@ fn child_at(s: &[u8], at: usize, seen: &[u8]) -> ByteRead
 fn children_at(s: &[u8], at: usize, n: u8) -> NextRead
     ensures { λ r. ⌜ nextParsed r ≡ forget (rowAt (childAt (now (s .entry)) true) n [] at) ⌝ }
 {
-    let mut seen = [0u8; 256];
+    let mut seen = [0u8; 64];
     let mut left = n;
     let mut place = at;
     while 0 < left {

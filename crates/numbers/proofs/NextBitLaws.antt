@@ -1,18 +1,18 @@
--- The laws of the next bit and of the word without it, at each width.
+-- The laws of the next bit, of the word without it and of a word with a bit, at each width.
 use Prim.Native.Nat.{ℕ, zero, suc, _+_, _-_, _*_, _/_, _^_, _≤_, _<_}
-use mathlib.Core.Bool.{Bool, true, false, cond, not, _&&_}
+use mathlib.Core.Bool.{Bool, true, false, cond, not, _&&_, _||_, or-comm}
 use mathlib.Core.Logic.{⊎-elim}
 use mathlib.Core.Path.{_≡_, refl, sym, _∙_, ap}
 use native.Mathlib.Nat.{pow-suc, zero-add, div-eq-of-lt}
 use native.Mathlib.Omega.{arith}
 use borrow.Author.Tests.{eq-eqb, ne-eqb, ltb-true, ltb-false}
-use lib.Bits.{bitAnd, bitXor, xor-add-and}
+use lib.Bits.{bitAnd, bitOr, bitXor, xor-add-and}
 use lib.Count.{ones, onesIn, ones-cat, leadingZeros, leading-of-zero, leading-top}
 use lib.Pow.{high, pow-add, pow-mono, shl-shr}
 use lib.Dec.{eqb, ltb}
-use Rattle.numbers.specs.Bits.{Bits, digit, wordOf, bitOf, andBits, andWord}
-use Rattle.numbers.specs.NextBit.{leastBit, otherBits, nextBit, withoutNext, Least}
-use Rattle.numbers.proofs.BitsLaws.{word-lt, word-ext, word-zero, bit-word, bit-in, word-bits, zero-bit, word-none, and-machine}
+use Rattle.numbers.specs.Bits.{Bits, digit, wordOf, bitOf, andBits, andWord, orBits, orWord}
+use Rattle.numbers.specs.NextBit.{leastBit, otherBits, nextBit, withoutNext, withBit, Least}
+use Rattle.numbers.proofs.BitsLaws.{word-lt, word-ext, word-zero, bit-word, bit-in, word-bits, zero-bit, word-none, and-machine, or-machine}
 use Rattle.numbers.proofs.Bools.{either, clash, and-none, same?}
 
 -- The least bit
@@ -167,3 +167,37 @@ module _ (w x : ℕ) (h : x < 2 ^ w) where
 pub without-none : (w x : ℕ) → x ≡ 0 → 0 ≡ withoutNext w x
 unfolding withoutNext otherBits
 without-none w x e = sym (word-zero w (otherBits (nextBit w x) (bitOf w x)) (λ i l. rw (e, zero-bit w i) (and-none (not (eqb i (nextBit w 0))))))
+
+-- The bits of the word without its next bit.
+pub without-bit : (w x i : ℕ) → i < w → bitOf w (withoutNext w x) i ≡ not (eqb i (nextBit w x)) && bitOf w x i
+unfolding withoutNext otherBits
+without-bit w x i h = bit-word w (otherBits (nextBit w x) (bitOf w x)) i h
+
+pub without-lt : (w x : ℕ) → withoutNext w x < 2 ^ w
+unfolding withoutNext
+without-lt w x = word-lt w (otherBits (nextBit w x) (bitOf w x))
+
+-- The word with bit k
+
+module _ (w k x : ℕ) where
+  pub with-bit : (i : ℕ) → i < w → bitOf w (withBit w k x) i ≡ eqb i k || bitOf w x i
+  unfolding withBit
+  with-bit i h = bit-word w (λ j. eqb j k || bitOf w x j) i h
+
+  pub with-lt : withBit w k x < 2 ^ w
+  unfolding withBit
+  with-lt = word-lt w (λ j. eqb j k || bitOf w x j)
+
+  -- As the machine computes it: the leftmost bit, shifted to bit k, is put to the others.
+  pub with-machine : x < 2 ^ w → k < w → bitOr x (2 ^ (w - 1) / 2 ^ k) ≡ withBit w k x
+  unfolding withBit orWord orBits
+  with-machine h l =
+      let s : 2 ^ (w - 1) / 2 ^ k ≡ wordOf w (λ i. eqb i k) = shifted (w - 1 - k) k (w - 1) (omega arith) ∙ sym (only-bit w k l) in
+      rw s
+      (or-machine w x (wordOf w (λ i. eqb i k)) h (word-lt w (λ i. eqb i k))
+      ∙ word-ext w _ (λ i. eqb i k || bitOf w x i) (λ i m. rw (bit-word w (λ i. eqb i k) i m) (or-comm (bitOf w x i) (eqb i k))))
+
+  -- A bit that the word has not.
+  pub with-none : x < 2 ^ w → w ≤ k → x ≡ withBit w k x
+  unfolding withBit
+  with-none h l = sym (word-ext w _ (bitOf w x) (λ i m. rw (ne-eqb i k (λ e. omega arith))) ∙ word-bits w x h)

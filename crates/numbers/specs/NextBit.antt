@@ -1,6 +1,6 @@
--- The next bit of a word, and the word without it. Document 02 (iv): "the next active bit, the least not yet taken".
+-- The next bit of a word, the word without it, and a word with a bit. Document 02 (iv): "the next active bit, the least not yet taken".
 use Prim.Native.Nat.{ℕ, zero, suc, _≤_, _<_}
-use mathlib.Core.Bool.{true, false, cond, not, _&&_}
+use mathlib.Core.Bool.{true, false, cond, not, _&&_, _||_}
 use mathlib.Core.Path.{_≡_}
 use lib.Dec.{eqb}
 use Rattle.numbers.specs.Bits.{Bits, bitOf, wordOf}
@@ -27,3 +27,7 @@ nextBit w x = leastBit w (bitOf w x)
 -- The word without its next bit.
 unfoldable pub withoutNext : ℕ → ℕ → ℕ
 withoutNext w x = wordOf w (otherBits (nextBit w x) (bitOf w x))
+
+-- The word with bit k set.
+unfoldable pub withBit : ℕ → ℕ → ℕ → ℕ
+withBit w k x = wordOf w (λ i. eqb i k || bitOf w x i)

@@ -4,7 +4,7 @@ ghost use Prim.Native.Nat.{_≤_};
 ghost use lib.ListN.{length};
 ghost use Rattle.numbers.specs.BigEndian.{bigEndian};
 ghost use Rattle.numbers.specs.Bits.{notWord, andWord, orWord, leftWord, rightWord};
-ghost use Rattle.numbers.specs.NextBit.{nextBit, withoutNext};
+ghost use Rattle.numbers.specs.NextBit.{nextBit, withoutNext, withBit};
 ghost use Rattle.numbers.specs.Field.{sizeOf, numberValues, byteValues, numberAt};
 
 // How many bytes a number takes.
@@ -94,6 +94,17 @@ pub fn without_next(x: u64) -> u64
         0
     } else {
         x ^ (0x8000_0000_0000_0000 >> next_bit(x))
+    }
+}
+
+// The word with a bit set. A word has no bit from 64 on, and stays as it is.
+pub fn with_bit(x: u64, b: u8) -> u64
+    ensures { λ r. ⌜ r ≡ withBit 64 b x ⌝ }
+{
+    if b < 64 {
+        x | (0x8000_0000_0000_0000 >> b)
+    } else {
+        x
     }
 }
 

@@ -9,7 +9,7 @@ use Rattle.graph.proofs.BelowLaws.{below-length, below-at}
 use Rattle.format.specs.Finding.{childFor, childPosition}
 use Rattle.format.specs.Lookup.{gathered, NodeEntry}
 use Rattle.format.specs.Tree.{NodeInstance, Chip}
-use Rattle.reader.specs.Prepared.{positionOr, childPlaces}
+use Rattle.reader.specs.Columns.{positionOr, childPlaces}
 
 module _ (c : Chip) where
   pub row-length : (i : NodeInstance) → length (childPlaces c i) ≡ 64

@@ -1,19 +1,18 @@
 -- What the code writes to the lent tables is what the tree says.
-use Prim.Native.Nat.{ℕ, suc, _*_, _%_, _≤_, _<_}
+use Prim.Native.Nat.{ℕ, suc, _%_, _≤_, _<_}
 use mathlib.Core.Bool.{Bool, true, false, cond, _||_}
-use mathlib.Core.List.{List, [], _∷_, _++_, map}
+use mathlib.Core.List.{List, [], _∷_, map}
 use mathlib.Core.Logic.{⊎-elim}
 use mathlib.Core.Path.{_≡_, refl, sym, _∙_, ap}
 use native.Mathlib.Nat.{mod-eq-of-lt}
 use native.Mathlib.Omega.{arith}
-use lib.Dec.{eqb, leb}
-use lib.ListN.{length, drop, length-map}
+use lib.Dec.{eqb}
+use lib.ListN.{length}
 use lib.Seq.{ext-getD}
-use borrow.Author.Tests.{leb-true}
-use Rattle.numbers.proofs.Bools.{either, clash, and-left, and-right}
+use Rattle.numbers.proofs.Bools.{either, clash}
 use Rattle.format.specs.Finding.{firstOf, ruleFor, rootFor, childFor, childPosition}
 use Rattle.format.specs.Limits.{nodeLimit}
-use Rattle.format.specs.Lookup.{some, position, at, gathered, NodeEntry, registerEntries, nodeEntries, nodeNamed, nodePosition}
+use Rattle.format.specs.Lookup.{some, position, at, gathered, NodeEntry, nodeEntries, nodeNamed, nodePosition}
 use Rattle.format.specs.Rules.{Every, Distinct, Meets}
 use Rattle.format.specs.Tree.{Rule, Child, Root, NodeInstance, Chip}
 use Rattle.format.proofs.EveryLaws.{every-map, every-both}
@@ -22,17 +21,14 @@ use Rattle.format.proofs.GatheredLaws.{gathered-same}
 use Rattle.format.proofs.Grouping.{layout-of}
 use Rattle.format.proofs.PositionsLaws.{at-empty, at-first, at-most, at-next, every-at, inside-at}
 use Rattle.tables.specs.Faults.{positionIn}
-use Rattle.tables.specs.Keys.{registerKeys, nodeKeys}
-use Rattle.tables.specs.Tables.{keyOf, written}
+use Rattle.tables.specs.Keys.{nodeKeys}
 use Rattle.tables.proofs.KeysLaws.{node-position-in}
-use Rattle.tables.proofs.TablesLaws.{written-front}
 use Rattle.links.specs.Links.{rulePlace, childNumber, childRow}
 use Rattle.links.proofs.ChildrenLaws.{child-row-length}
 use Rattle.links.proofs.TableLaws.{forBit, numberOr, row-child}
 use Rattle.references.specs.RootIn.{rootPosition}
-use Rattle.reader.specs.Filled.{filledBy}
-use Rattle.reader.specs.Prepared.{Lent, expressionPlace, ruleColumn, positionOr, childPlaces, childColumn, rootPlace, filledFor, roomOf, roomFor}
-use Rattle.reader.proofs.ChildPlacesLaws.{row-length, row-place, places-length}
+use Rattle.reader.specs.Columns.{expressionPlace, positionOr, childPlaces, childColumn, rootPlace}
+use Rattle.reader.proofs.ChildPlacesLaws.{row-length, row-place}
 use Rattle.reader.proofs.CycleLaws.{entry-children}
 
 -- Rules
@@ -47,13 +43,9 @@ rules-place attention (r ∷ rs) = go (eqb (r .attention) attention) (rules-plac
     go true e = sym (ap expressionPlace (at-first r rs))
     go false e = e ∙ sym (ap expressionPlace (at-next (position (λ r. eqb (r .attention) attention) rs) r rs))
 
-rule-place : (attention : ℕ) (i : NodeInstance) → rulePlace attention (i .rules) ≡ expressionPlace (ruleFor attention i)
+pub rule-place : (attention : ℕ) (i : NodeInstance) → rulePlace attention (i .rules) ≡ expressionPlace (ruleFor attention i)
 unfolding ruleFor
 rule-place attention i = rules-place attention (i .rules)
-
-rule-column : (attention : ℕ) (es : List NodeEntry) → map (λ e. rulePlace attention (e .instance .rules)) es ≡ map (λ e. expressionPlace (ruleFor attention (e .instance))) es
-rule-column attention [] = refl
-rule-column attention (e ∷ es) = rw (rule-place attention (e .instance), rule-column attention es)
 
 -- Roots
 
@@ -125,7 +117,7 @@ module _ (c : Chip) (meets : Meets c) where
       let l : b < 64 = omega (arith, child-row-length (nodeKeys c) i) in
       row-child (nodeKeys c) b i l d ∙ bit-same i b f ∙ sym (row-place c i b l))
 
-  child-column : gathered (λ e. childRow (nodeKeys c) (e .instance)) (nodeEntries c) ≡ childColumn c
+  pub child-column : gathered (λ e. childRow (nodeKeys c) (e .instance)) (nodeEntries c) ≡ childColumn c
   child-column =
       gathered-same _ _ (nodeEntries c)
       (every-map _ _ (λ (e : NodeEntry) h. row-same (e .instance) (h .0) (h .1)) (nodeEntries c)
@@ -141,7 +133,7 @@ module _ (c : Chip) (meets : Meets c) where
   unfolding rootPlace nodePosition
   one-root ts t e = rw e
 
-  root-same : (attention : ℕ) → rootPosition (nodeKeys c) attention (c .roots) ≡ rootPlace c (rootFor attention c)
+  pub root-same : (attention : ℕ) → rootPosition (nodeKeys c) attention (c .roots) ≡ rootPlace c (rootFor attention c)
   unfolding rootFor
   root-same attention =
       ⊎-elim
@@ -152,28 +144,3 @@ module _ (c : Chip) (meets : Meets c) where
       position-first (nodeKeys c) attention (c .roots) (f .2) ∙ node-position-in c (meets .fields) (x .id) (x .number) (omega (arith, b .0)) (b .1) ∙ sym (one-root _ x (f .1)))
       (λ h. position-nowhere (nodeKeys c) attention (c .roots) h ∙ sym (no-root _ (first-none (wanted (nodeKeys c) attention) (c .roots) h)))
       (either (some (wanted (nodeKeys c) attention) (c .roots)))
-
-  -- Tables with room
-
-  pub columns-same : (attention : ℕ) (t : Lent) → roomFor c t ≡ true → filledBy attention c t ≡ filledFor attention c t
-  unfolding filledBy filledFor roomOf
-  columns-same attention t room =
-      let a = leb-true _ _ (and-left _ _ room) in
-      let r₁ = and-right (leb (length (registerEntries c)) (length (t .registers))) _ room in
-      let b = leb-true _ _ (and-left _ _ r₁) in
-      let r₂ = and-right (leb (length (nodeEntries c)) (length (t .nodes))) _ r₁ in
-      let d = leb-true _ _ (and-left _ _ r₂) in
-      let r₃ = and-right (leb (length (nodeEntries c)) (length (t .rules))) _ r₂ in
-      let e : length (nodeEntries c) * 64 ≤ length (t .children) = leb-true _ _ (and-left _ _ r₃) in
-      let f = leb-true _ _ (and-right (leb (length (nodeEntries c) * 64) (length (t .children))) _ r₃) in
-      let p : written (t .registers) 0 (registerKeys c) ≡ registerKeys c ++ drop (length (registerKeys c)) (t .registers) =
-      written-front (t .registers) (registerKeys c) (rw (length-map (registerEntries c) (λ e. keyOf (e .id) (e .instance .number))) a) in
-      let q : written (t .nodes) 0 (nodeKeys c) ≡ nodeKeys c ++ drop (length (nodeKeys c)) (t .nodes) =
-      written-front (t .nodes) (nodeKeys c) (rw (length-map (nodeEntries c) (λ e. keyOf (e .id) (e .instance .number))) b) in
-      let u : written (t .rules) 0 (ruleColumn attention c) ≡ ruleColumn attention c ++ drop (length (ruleColumn attention c)) (t .rules) =
-      written-front (t .rules) (ruleColumn attention c) (rw (length-map (nodeEntries c) (λ e. expressionPlace (ruleFor attention (e .instance)))) d) in
-      let v : written (t .children) 0 (childColumn c) ≡ childColumn c ++ drop (length (childColumn c)) (t .children) =
-      written-front (t .children) (childColumn c) (let l = places-length c (nodeEntries c) in omega arith) in
-      let w : written (t .root) 0 (rootPlace c (rootFor attention c) ∷ []) ≡ (rootPlace c (rootFor attention c) ∷ []) ++ drop 1 (t .root) =
-      written-front (t .root) (rootPlace c (rootFor attention c) ∷ []) f in
-      rw (rule-column attention (nodeEntries c), child-column, root-same attention, p, q, u, v, w)

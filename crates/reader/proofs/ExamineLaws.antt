@@ -47,10 +47,15 @@ module _ (s : List ℕ) where
     unfolding making
     examined-faulty e = let z = whole-out s w in sym (ap (making countsOf) (verdict-by z ∙ ap (making (λ _. z .parts .chip)) e))
 
-    pub examined-clean : {u : Unit {0}} {a : ℕ} → y ≡ done u a → done (layoutValues l) end ≡ making countsOf (verdict s)
+    -- Where there is no fault, the file is accepted.
+    pub clean-verdict : {u : Unit {0}} {a : ℕ} → y ≡ done u a → verdict s ≡ done (whole-out s w .parts .chip) end
     unfolding making
-    examined-clean {u} {a} e =
+    clean-verdict {u} {a} e =
         let z = whole-out s w in
         let c = z .parts .chip in
         let q : end ≡ a = faultless _ (sym (f c laid-out (z .parts .file)) ∙ e) .1 in
-        sym (ap (making countsOf) (verdict-by z ∙ ap (making (λ _. c)) e) ∙ rw (← q, ← values-are z))
+        verdict-by z ∙ ap (making (λ _. c)) e ∙ rw (← q)
+
+    pub examined-clean : {u : Unit {0}} {a : ℕ} → y ≡ done u a → done (layoutValues l) end ≡ making countsOf (verdict s)
+    unfolding making
+    examined-clean e = let z = whole-out s w in sym (ap (making countsOf) (clean-verdict e) ∙ rw (← values-are z))

@@ -4,7 +4,7 @@ use mathlib.Core.Bool.{true}
 use mathlib.Core.List.{List, [], _∷_, _++_, map, map-map}
 use mathlib.Core.Path.{_≡_, refl, sym, _∙_, ap, subst}
 use native.Mathlib.Omega.{arith}
-use lib.ListN.{length, take, replicate, length-replicate, length-map}
+use lib.ListN.{length, take, length-map}
 use Rattle.numbers.specs.BigEndian.{Bytes}
 use Rattle.format.specs.Cycles.{cycleFaults}
 use Rattle.format.specs.FileLayout.{rootsAt, fileAt}
@@ -85,33 +85,38 @@ module _ (s : List ℕ) (bytes : Bytes s) {l : Summary} {end : ℕ} where
       (omega (arith, d .registerCount, d .registerRoom), omega (arith, d .nodeCount, d .nodeRoom))
 
 -- The tables of a file, filled from the front.
-column : {E : Type 0} (es : List E) (f : E → ℕ) (k size : ℕ) → k ≡ length es → length es ≤ size → {t : List ℕ} → t ≡ written (replicate size 0) 0 (map f es) → take k t ≡ map f es
-column es f k size e h d =
+column : {E : Type 0} (es : List E) (f : E → ℕ) (k : ℕ) (u : List ℕ) → k ≡ length es → k ≤ length u → {t : List ℕ} → t ≡ written u 0 (map f es) → take k t ≡ map f es
+column es f k u e h d =
     let i : k ≡ length (map f es) = e ∙ sym (length-map es f) in
-    let j : length (map f es) ≤ length (replicate {A = ℕ} size 0) = rw (length-map es f, length-replicate {A = ℕ} size 0) h in
-    ap (take k) d ∙ written-take (replicate size 0) (map f es) k i j
+    ap (take k) d ∙ written-take u (map f es) k i (omega arith)
 
-module _ (c : Chip) where
-  pub register-tables : (m : ℕ) → m ≡ length (registerEntries c) → length (registerEntries c) ≤ 1024 → {keys kinds spots : List ℕ}
-      → _≡_ {A = Rows} (record { keys = keys; kinds = kinds; places = spots }) (filled (record { keys = replicate 1024 0; kinds = replicate 1024 0; places = replicate 1024 0 }) 0 (map registerRow (registerEntries c)))
-      → (take m keys ≡ registerKeys c) × (take m kinds ≡ registerKinds c) × (take m spots ≡ registerPlaces c)
-  unfolding registerRow rowOf
-  register-tables m e h r =
-      let es = registerEntries c in
-      let a = r ∙ filled-columns _ 0 (map registerRow es) in (
-        column es _ m 1024 e h (ap (λ t. t .keys) a ∙ ap (written (replicate 1024 0) 0) (map-map (λ r. r .key) registerRow es)),
-        column es _ m 1024 e h (ap (λ t. t .kinds) a ∙ ap (written (replicate 1024 0) 0) (map-map (λ r. r .kind) registerRow es)),
-        column es _ m 1024 e h (ap (λ t. t .places) a ∙ ap (written (replicate 1024 0) 0) (map-map (λ r. r .place) registerRow es)),
-      )
+module _ (c : Chip) (t : Rows) where
+  module _ (m : ℕ) (e : m ≡ length (registerEntries c)) {keys kinds spots : List ℕ}
+      (r : _≡_ {A = Rows} (record { keys = keys; kinds = kinds; places = spots }) (filled t 0 (map registerRow (registerEntries c)))) where
+    rows : _≡_ {A = Rows} (record { keys = keys; kinds = kinds; places = spots })
+        (record { keys = written (t .keys) 0 (map (λ r. r .key) (map registerRow (registerEntries c))); kinds = written (t .kinds) 0 (map (λ r. r .kind) (map registerRow (registerEntries c))); places = written (t .places) 0 (map (λ r. r .place) (map registerRow (registerEntries c))) })
+    rows = r ∙ filled-columns t 0 (map registerRow (registerEntries c))
 
-  pub node-tables : (n : ℕ) → n ≡ length (nodeEntries c) → length (nodeEntries c) ≤ 256 → {nodes wanted places : List ℕ}
-      → _≡_ {A = Rows} (record { keys = nodes; kinds = wanted; places = places }) (filled (record { keys = replicate 256 0; kinds = replicate 256 0; places = replicate 256 0 }) 0 (map nodeRow (nodeEntries c)))
+    pub register-keys : m ≤ length (t .keys) → take m keys ≡ registerKeys c
+    unfolding registerRow rowOf
+    register-keys h = column (registerEntries c) _ m (t .keys) e h (ap (λ t. t .keys) rows ∙ ap (written (t .keys) 0) (map-map (λ r. r .key) registerRow (registerEntries c)))
+
+    pub register-kinds : m ≤ length (t .kinds) → take m kinds ≡ registerKinds c
+    unfolding registerRow rowOf
+    register-kinds h = column (registerEntries c) _ m (t .kinds) e h (ap (λ t. t .kinds) rows ∙ ap (written (t .kinds) 0) (map-map (λ r. r .kind) registerRow (registerEntries c)))
+
+    pub register-places : m ≤ length (t .places) → take m spots ≡ registerPlaces c
+    unfolding registerRow rowOf
+    register-places h = column (registerEntries c) _ m (t .places) e h (ap (λ t. t .places) rows ∙ ap (written (t .places) 0) (map-map (λ r. r .place) registerRow (registerEntries c)))
+
+  pub node-tables : (n : ℕ) → n ≡ length (nodeEntries c) → n ≤ length (t .keys) → n ≤ length (t .kinds) → n ≤ length (t .places) → {nodes wanted places : List ℕ}
+      → _≡_ {A = Rows} (record { keys = nodes; kinds = wanted; places = places }) (filled t 0 (map nodeRow (nodeEntries c)))
       → (take n nodes ≡ nodeKeys c) × (take n wanted ≡ nodeWanted c) × (take n places ≡ nodePlaces c)
   unfolding nodeRow rowOf
-  node-tables n e h r =
+  node-tables n e h i j r =
       let es = nodeEntries c in
-      let a = r ∙ filled-columns _ 0 (map nodeRow es) in (
-        column es _ n 256 e h (ap (λ t. t .keys) a ∙ ap (written (replicate 256 0) 0) (map-map (λ r. r .key) nodeRow es)),
-        column es _ n 256 e h (ap (λ t. t .kinds) a ∙ ap (written (replicate 256 0) 0) (map-map (λ r. r .kind) nodeRow es)),
-        column es _ n 256 e h (ap (λ t. t .places) a ∙ ap (written (replicate 256 0) 0) (map-map (λ r. r .place) nodeRow es)),
+      let a = r ∙ filled-columns t 0 (map nodeRow es) in (
+        column es _ n (t .keys) e h (ap (λ t. t .keys) a ∙ ap (written (t .keys) 0) (map-map (λ r. r .key) nodeRow es)),
+        column es _ n (t .kinds) e i (ap (λ t. t .kinds) a ∙ ap (written (t .kinds) 0) (map-map (λ r. r .kind) nodeRow es)),
+        column es _ n (t .places) e j (ap (λ t. t .places) a ∙ ap (written (t .places) 0) (map-map (λ r. r .place) nodeRow es)),
       )

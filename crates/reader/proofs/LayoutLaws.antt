@@ -105,5 +105,13 @@ pub same-nodes : (s : List ℕ) {l k : Layout} → LayoutRead.Done l ≡ LayoutR
     → nodesAt s true (l .«nodes_at») ≡ done ns m
 same-nodes s e ns m d = ap (nodesAt s true) (ap nodesPlaceOf e) ∙ d
 
+abbrev registersPlaceOf : LayoutRead → ℕ
+registersPlaceOf (LayoutRead.Done l) = l .«registers_at»
+registersPlaceOf (LayoutRead.Refused r) = 0
+
+pub same-registers : (s : List ℕ) {l k : Layout} → LayoutRead.Done l ≡ LayoutRead.Done k → (rs : List Register) (m : ℕ) → registersAt s true (k .«registers_at») ≡ done rs m
+    → registersAt s true (l .«registers_at») ≡ done rs m
+same-registers s e rs m d = ap (registersAt s true) (ap registersPlaceOf e) ∙ d
+
 pub no-layout : {A : Type 0} {r : Refusal} {l : Layout} → LayoutRead.Refused r ≡ LayoutRead.Done l → A
 no-layout e = let z : _≡_ {A = ℕ} 0 1 = cc in absurd (omega arith)

@@ -9,4 +9,6 @@ pub mod ExamineLaws
 pub mod AddressLaws
 pub mod ChildPlacesLaws
 pub mod ColumnsLaws
-pub mod PreparedLaws
+pub mod ExaminedLaws
+pub mod ClassesLaws
+pub mod WantedLaws

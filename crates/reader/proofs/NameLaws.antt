@@ -2,7 +2,7 @@
 use Prim.Native.Nat.{ℕ, _≤_, _<_}
 use mathlib.Core.Bool.{true}
 use mathlib.Core.List.{List, [], _∷_, _++_, map}
-use mathlib.Core.Path.{_≡_, refl, sym, _∙_, ap}
+use mathlib.Core.Path.{_≡_, refl, sym, _∙_, ap, subst}
 use native.Mathlib.Omega.{arith}
 use lib.ListN.{length, length-map}
 use Rattle.numbers.specs.BigEndian.{Bytes}
@@ -16,16 +16,15 @@ use Rattle.format.specs.Tree.{Root, Chip}
 use Rattle.format.proofs.FileAccepted.{file-out}
 use Rattle.format.proofs.Grouping.{LayoutMeets, layout-out}
 use Rattle.format.proofs.GatheredLaws.{gathered-same}
-use Rattle.format.proofs.ParsedLaws.{never, then-out, making-out}
-use Rattle.fields.specs.declared.NextRead
-use Rattle.fields.specs.declared.NextRead.{NextRead}
-use Rattle.fields.specs.Views.{nextParsed}
+use Rattle.format.proofs.ParsedLaws.{then-out, making-out}
 use Rattle.tables.specs.Faults.{judgedAt}
 use Rattle.tables.specs.Keys.{registerKeys, nodeKeys}
-use Rattle.tables.proofs.FaultsLaws.{judged-none, judged-stop, judged-on}
+use Rattle.tables.specs.Tables.{written}
+use Rattle.tables.proofs.FaultsLaws.{judged-stop, judged-on}
 use Rattle.index.specs.Rows.{ReadAgain, entryPlace, entryWanted}
 use Rattle.index.specs.Columns.{TablesOf}
 use Rattle.index.proofs.RowsLaws.{nodes-again}
+use Rattle.links.specs.Links.{childRow}
 use Rattle.references.specs.FaultsIn.{entryFaultsIn, rootFaultsIn}
 use Rattle.references.proofs.TablesLaws.{instances-same}
 use Rattle.references.proofs.RootsLaws.{roots-same}
@@ -58,14 +57,14 @@ entries-again s {c} e =
     let n : v .0 ≡ c .nodes = ap (λ x. x .nodes) (g .2) in
     nodes-again s (u .1) (v .2 ∙ ap (λ x. done x (v .1)) n)
 
+-- The table of children by the names of the chip's node instances.
+pub children-of : (c : Chip) (nodes table : List ℕ) → nodes ≡ nodeKeys c → {t : List ℕ} → t ≡ written table 0 (gathered (λ e. childRow nodes (e .instance)) (nodeEntries c))
+    → t ≡ written table 0 (gathered (λ e. childRow (nodeKeys c) (e .instance)) (nodeEntries c))
+children-of c nodes table e {t} d = subst (λ n. t ≡ written table 0 (gathered (λ e. childRow n (e .instance)) (nodeEntries c))) e d
+
 pub empty-left : (xs ys : List Fault) → xs ++ ys ≡ [] → xs ≡ []
 empty-left [] ys e = refl
 empty-left (x ∷ xs) ys e = let z : _≡_ {A = ℕ} 0 1 = cc in absurd (omega arith)
-
--- What is done goes on.
-went : (r : NextRead) {u : Unit {0}} {n : ℕ} → nextParsed r ≡ done u n → (k : ℕ) × (r ≡ NextRead.Next k)
-went (NextRead.Next k) e = (k, refl)
-went (NextRead.Refused x) e = never e
 
 module _ (s : List ℕ) (bytes : Bytes s) (keys kinds nodes wanted places : List ℕ) (c : Chip) (end : ℕ) (file : fileAt s true 0 ≡ done c end)
     (tables : TablesOf c keys kinds nodes wanted places) where
@@ -96,11 +95,3 @@ module _ (s : List ℕ) (bytes : Bytes s) (keys kinds nodes wanted places : List
     names-roots e {z} at g r =
         let j = judged-on (gathered (instanceFaults c) (nodeEntries c)) (gathered (rootFaults c) (c .roots)) end (sym nodes-judged ∙ e) in
         g (nodeEntries c) (entries-again s file) (tables .places-are) (c .roots) end r ∙ ap (λ x. judgedAt x end) roots-are ∙ sym (j .1)
-
-  -- Where the file has no fault, no node instance has one.
-  pub nodes-clean : referenceFaults c ≡ [] → (r : NextRead)
-      → ((es : List NodeEntry) → Every (ReadAgain s) es → places ≡ map entryPlace es → wanted ≡ map entryWanted es → nextParsed r ≡ judgedAt (gathered (entryFaultsIn keys kinds nodes) es) 0)
-      → (k : ℕ) × (r ≡ NextRead.Next k)
-  unfolding referenceFaults
-  nodes-clean clean r f =
-      went r (nodes-judged f ∙ ap (λ fs. judgedAt fs 0) (empty-left (gathered (instanceFaults c) (nodeEntries c)) _ clean) ∙ judged-none 0)

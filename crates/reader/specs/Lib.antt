@@ -1,5 +1,6 @@
 -- What the answers about a whole file stand for.
 pub mod Roots
 pub mod Layout
-pub mod Prepared
-pub mod Filled
+pub mod Columns
+pub mod Examined
+pub mod Classes

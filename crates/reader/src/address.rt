@@ -1,11 +1,11 @@
 // The address of a register instance.
 use crate::Layout;
 use crate::LayoutRead;
-use crate::file::examine;
+use crate::classes::examine;
 use format::Address;
 use format::Kind;
 use format::Refusal;
-use index::register_rows::fill_registers;
+use index::addresses::fill_registers;
 use tables::entry;
 use tables::name_position;
 ghost use Prim.Native.Nat.{_+_};

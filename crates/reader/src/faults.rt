@@ -53,7 +53,7 @@ fn name_faults(
         → TablesOf c (now (keys .entry)) (now (kinds .entry)) (now (nodes .entry)) (now (wanted .entry)) (now (places .entry))
         → IndexOf (now (index .entry)) (now (keys .entry))
         → IndexOf (now («node_index» .entry)) (now (nodes .entry))
-        → now (child .exit) ≡ written (now (child .entry)) 0 (gathered (λ e. childRow (now (nodes .entry)) (e .instance)) (nodeEntries c))) ⌝ }
+        → now (child .exit) ≡ written (now (child .entry)) 0 (gathered (λ e. childRow (nodeKeys c) (e .instance)) (nodeEntries c))) ⌝ }
 {
     let f = node_faults(
         s,
@@ -94,7 +94,8 @@ fn cycle_fault(child: &[u16], places: &[u64], next: usize) -> NextRead
     NextRead::Next(next)
 }
 
-// The first fault of 12 to 14, by the file's tables; where there is none, the place after the roots section.
+// The first fault of 12 to 14, by the file's tables; where there is none, the place after the roots section, and the children of each node instance are in `child`. An index over
+// the names of the register instances, and one over those of the node instances, are in `index` and `node_index`.
 pub fn table_faults(
     s: &[u8],
     roots_at: usize,
@@ -103,32 +104,39 @@ pub fn table_faults(
     nodes: &[u64],
     wanted: &[u64],
     places: &[u64],
+    index: &mut [u16],
+    node_index: &mut [u16],
+    child: &mut [u16],
 ) -> NextRead
     ensures { λ r. ⌜ ((c : Chip) (end : ℕ)
         → fileAt (now (s .entry)) true 0 ≡ done c end
         → rootsAt (now (s .entry)) true «roots_at» ≡ done (c .roots) end
         → TablesOf c (now (keys .entry)) (now (kinds .entry)) (now (nodes .entry)) (now (wanted .entry)) (now (places .entry))
+        → length (nodeEntries c) * 64 ≤ length (now (child .entry))
         → nextParsed r ≡ judgedAt (referenceFaults c ++ cycleFaults c) end) ⌝ }
+    ensures { λ r. ⌜ ((c : Chip) (end next : ℕ)
+        → r ≡ NextRead.Next next
+        → fileAt (now (s .entry)) true 0 ≡ done c end
+        → TablesOf c (now (keys .entry)) (now (kinds .entry)) (now (nodes .entry)) (now (wanted .entry)) (now (places .entry))
+        → IndexOf (now (index .exit)) (now (keys .entry))
+        × (now (child .exit) ≡ written (now (child .entry)) 0 (gathered (λ e. childRow (nodeKeys c) (e .instance)) (nodeEntries c)))) ⌝ }
 {
-    let mut index = [0u16; tables::positions::REGISTER_PLACES];
-    enter_all(keys, &mut index);
-    let mut node_index = [0u16; tables::positions::NODE_PLACES];
-    enter_all(nodes, &mut node_index);
-    let mut child = [0u16; 16384];
+    enter_all(keys, index);
+    enter_all(nodes, node_index);
     let f = name_faults(
         s,
         roots_at,
-        &index,
+        index,
         keys,
         kinds,
-        &node_index,
+        node_index,
         nodes,
         wanted,
         places,
-        &mut child,
+        child,
     );
     match f {
-        NextRead::Next(end) => cycle_fault(&child, places, end),
+        NextRead::Next(end) => cycle_fault(child, places, end),
         NextRead::Refused(r) => NextRead::Refused(r),
     }
 }

@@ -1,5 +1,5 @@
 // The reader of chip data files.
-use crate::file::examine;
+use crate::classes::examine;
 use format::Checked;
 use format::Refusal;
 use format::Summary;
@@ -10,10 +10,12 @@ ghost use Rattle.format.specs.Verdict.{check};
 ghost use Rattle.reader.specs.Layout.{laidOut, layoutValues};
 
 pub mod address;
+mod classes;
+pub mod examined;
 mod faults;
 mod file;
-pub mod prepare;
 mod roots;
+pub mod wanted;
 
 // Where a file's sections begin, and what it holds.
 pub struct Layout {
@@ -29,7 +31,7 @@ pub struct Layout {
     pub end: usize,
 }
 
-// The layout of a file, or the first refusal of 2 to 10 in byte order.
+// The layout of a file, or a refusal: the first of 1 to 11 in byte order; of a file that was examined that of 1 to 14, or 43 where a table is too short.
 pub enum LayoutRead {
     Done(Layout),
     Refused(Refusal),
@@ -49,7 +51,7 @@ fn summary(l: Layout) -> Summary
     }
 }
 
-// The checker: what an accepted file holds, or the refusal that the rules name first. It reads the registers section twice, for its layout and its rows, and the nodes section twice, for its layout and its rows, and for its names and children; and the rules of each root's node instance once more.
+// The checker: what an accepted file holds, or the refusal that the rules name first. With tables that have room for the file, and IDs and instance numbers that rise, it reads the registers section once, the nodes section twice, for its layout with its rows and for its names and children, and the rules of each root's node instance once more.
 pub fn check(file: &[u8]) -> Checked
     ensures { λ r. ⌜ checkedValues r ≡ check (now (file .entry)) ⌝ }
 {

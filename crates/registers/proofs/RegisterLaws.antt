@@ -16,12 +16,12 @@ use Rattle.registers.specs.declared.RegisterHeadRead
 use Rattle.registers.specs.declared.RegisterHeadRead.{RegisterHeadRead}
 use Rattle.format.specs.Tree.{RegisterInstance, Register}
 use Rattle.format.specs.RegisterLayout.{RegisterHead, registerTotal, registerInstanceAt, registerHeadAt, registerAt}
-use Rattle.fields.specs.Seen.{unmarked, newAfter, instanceNumberAt, Tells}
+use Rattle.fields.specs.Seen.{unmarked, instanceNumberAt, Tells}
 use Rattle.fields.specs.Views.{Element, refusedBy}
-use Rattle.registers.specs.Registers.{registerHeadParsed, registerFlagsAt, registerNumber, registerId, registerElement}
-use Rattle.fields.proofs.Parsing.{Found, found, followed, passed, row-length, row-bound}
+use Rattle.registers.specs.Registers.{registerHeadParsed, registerFlagsAt, registerRestAt, registerAfter, registerNumber, registerId, registerElement}
+use Rattle.fields.proofs.Parsing.{Found, found, followed, passed, then-then, row-length, row-bound}
 use Rattle.fields.proofs.Steps.{goes-making, stops-making}
-use Rattle.fields.proofs.SeenLaws.{number-told, tells-is}
+use Rattle.fields.proofs.SeenLaws.{number-told}
 
 module _ (s : List ℕ) (at t : ℕ) {y : Parsed ℕ} where
   pub address-four : t ≡ 1 → y ≡ fieldAt s at 4 → y ≡ fieldAt s at (addressSize t)
@@ -59,20 +59,10 @@ instance-room g s total type before at {v} {m} e =
     let k : total + length before < registerLimit = ltb-true _ _ j in
     omega (arith, register-limit)
 
--- The head of a register after those that the IDs tell of.
-pub head-told : (s : List ℕ) (numbers : List ℕ) (at largest : ℕ) (ids : List ℕ) {y : Parsed RegisterHead} → Tells (newAfter largest ids) numbers
-    → y ≡ andThen (requiring (newAfter largest ids) 7 at (fieldAt s at 3)) (λ i a. andThen (typeAt s a) λ t b. registerFlagsAt s i t b)
-    → y ≡ registerHeadAt s true numbers at
-unfolding registerHeadAt registerFlagsAt
-head-told s numbers at largest ids t k = rw (← tells-is t) k
-
--- A register is its head and its instances.
-pub register-told : (g : Register → Element) (s : List ℕ) (before : List Register) (at : ℕ) {total : ℕ} {y : Parsed Element}
-    → total ≡ registerTotal before
-    → y ≡ making g (andThen (registerHeadAt s true (map registerId before) at) λ h a. making (λ is. record { id = h .id; type = h .type; flags = h .flags; instances = is }) (rowAt (registerInstanceAt s true total (h .type)) (h .count) [] a))
-    → y ≡ making g (registerAt s true before at)
-unfolding registerAt
-register-told g s before at {total} {y} e k = rw (← e) k
+-- A register is its ID and the rest.
+pub register-split : (s : List ℕ) (before : List Register) (at : ℕ) → registerAt s true before at ≡ andThen (requiring (fresh true (map registerId before)) 7 at (fieldAt s at 3)) (registerAfter s (registerTotal before))
+unfolding registerAt registerHeadAt registerFlagsAt registerRestAt registerAfter
+register-split s before at = then-then _ _ _
 
 module _ {B : Type 0} (g : B → Element) (p : Parsed RegisterHead) (f : RegisterHead → ℕ → Parsed B) {y : Parsed Element} where
   pub head-then : {x : RegisterHeadRead} {h : declared.RegisterHead} {n : ℕ} → registerHeadParsed x ≡ p → x ≡ RegisterHeadRead.Head h n
@@ -115,4 +105,4 @@ register-size s before at {i} {k} {m} e =
     let q : length (j .value) ≡ k = ap length o ∙ n in
     (omega arith, omega arith)
 
-pub ruleset register-laws = (address-four, address-eight, instance-told, head-told, register-told, head-then, head-stop)
+pub ruleset register-laws = (address-four, address-eight, instance-told)

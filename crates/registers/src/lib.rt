@@ -1,38 +1,29 @@
-// The registers section.
+// The parts of a register.
 use fields::ByteRead;
-use fields::CountRead;
-use fields::ElementRead;
-use fields::NextRead;
 use fields::NumberRead;
-use fields::SectionRead;
 use fields::byte_count_at;
 use fields::flags_at;
-use fields::keyword_at;
 use fields::number_at;
-use fields::number_count_at;
-use fields::seen::enter_ids;
 use fields::seen::instance_number_at;
 use fields::seen::is_new;
-use fields::seen::larger;
 use fields::type_at;
 use format::Kind;
 use format::Refusal;
 use numbers::Width;
-use tables::positions::REGISTER_PLACES;
 ghost use Prim.Native.Nat.{ℕ, _+_};
 ghost use mathlib.Core.Bool.{true};
-ghost use mathlib.Core.List.{List, [], map};
+ghost use mathlib.Core.List.{List, map};
 ghost use mathlib.Core.Path.{_≡_};
 ghost use lib.ListN.{length};
 ghost use Rattle.format.specs.Fields.{fieldAt, addressSize};
-ghost use Rattle.format.specs.Parsed.{making, requiring, rowAt};
-ghost use Rattle.format.specs.Tree.{RegisterInstance, Register};
-ghost use Rattle.format.specs.RegisterLayout.{registerTotal, registerInstanceAt, registerHeadAt, registerAt, registersAt};
+ghost use Rattle.format.specs.Parsed.{making, requiring};
+ghost use Rattle.format.specs.Tree.{RegisterInstance};
+ghost use Rattle.format.specs.RegisterLayout.{registerInstanceAt};
 ghost use Rattle.tables.specs.Indexed.{Indexed};
 ghost use Rattle.fields.specs.Seen.{unmarked, newAfter, Tells};
-ghost use Rattle.registers.specs.Registers.{registerFlagsAt};
-ghost use Rattle.fields.specs.Views.{byteParsed, numberParsed, nextParsed, elementParsed, countParsed, sectionParsed, forget};
-ghost use Rattle.registers.specs.Registers.{registerHeadParsed, registerNumber, registerId, registerElement, registerSection};
+ghost use Rattle.registers.specs.Registers.{registerFlagsAt, registerRestAt};
+ghost use Rattle.fields.specs.Views.{byteParsed, numberParsed};
+ghost use Rattle.registers.specs.Registers.{registerHeadParsed, registerNumber};
 
 // What a register starts with.
 pub struct RegisterHead {
@@ -59,7 +50,7 @@ pub fn address_at(s: &[u8], at: usize, kind: u8) -> NumberRead
 }
 
 // A register instance: its number. `seen` marks the numbers before it in the register, and `begun` instances stand before it in the file.
-fn register_instance_at(s: &[u8], at: usize, kind: u8, begun: usize, seen: &[u8]) -> ByteRead
+pub fn register_instance_at(s: &[u8], at: usize, kind: u8, begun: usize, seen: &[u8]) -> ByteRead
     ensures { λ r. ⌜ ((total : ℕ) (before : List RegisterInstance)
         → Tells (unmarked (now (seen .entry))) (map registerNumber before)
         → begun ≡ total + length before
@@ -78,33 +69,8 @@ fn register_instance_at(s: &[u8], at: usize, kind: u8, begun: usize, seen: &[u8]
     }
 }
 
-// The instances of a register; `total` instances stand before them in the file. It reads each instance once.
-fn register_instances_at(s: &[u8], at: usize, kind: u8, count: u8, total: usize) -> NextRead
-    ensures { λ r. ⌜ nextParsed r ≡ forget (rowAt (registerInstanceAt (now (s .entry)) true total kind) count [] at) ⌝ }
-{
-    let mut seen = [0u8; 256];
-    let mut begun = total;
-    let mut left = count;
-    let mut place = at;
-    while 0 < left {
-        let i = register_instance_at(s, place, kind, begun, &seen);
-        match i {
-            ByteRead::Byte(number, next) => {
-                seen[number as usize] = 1;
-                place = next;
-            }
-            ByteRead::Refused(r) => {
-                return NextRead::Refused(r);
-            }
-        }
-        begun += 1;
-        left -= 1;
-    }
-    NextRead::Next(place)
-}
-
 // The ID of a register: none of those before it, each of which is at most `largest`, and the first `entered` are entered in an index.
-fn register_id_at(
+pub fn register_id_at(
     s: &[u8],
     at: usize,
     ids: &[u64],
@@ -155,120 +121,13 @@ fn register_flags_at(s: &[u8], at: usize, id: u64, kind: u8) -> RegisterHeadRead
     }
 }
 
-// What a register starts with; `ids` are the IDs of the registers before it, each at most `largest`, and the first `entered` are entered in an index.
-pub fn register_head_at(
-    s: &[u8],
-    at: usize,
-    ids: &[u64],
-    index: &[u16],
-    entered: usize,
-    largest: u64,
-) -> RegisterHeadRead
-    ensures { λ r. ⌜ (Indexed (now (index .entry)) (now (ids .entry)) entered
-        → (numbers : List ℕ)
-        → Tells (newAfter largest (now (ids .entry))) numbers
-        → registerHeadParsed r ≡ registerHeadAt (now (s .entry)) true numbers at) ⌝ }
+// The rest of a register's head, after its ID.
+pub fn register_rest_at(s: &[u8], at: usize, id: u64) -> RegisterHeadRead
+    ensures { λ r. ⌜ registerHeadParsed r ≡ registerRestAt (now (s .entry)) id at ⌝ }
 {
-    let i = register_id_at(s, at, ids, index, entered, largest);
-    match i {
-        NumberRead::Number(id, a) => {
-            let t = type_at(s, a);
-            match t {
-                ByteRead::Byte(kind, b) => register_flags_at(s, b, id, kind),
-                ByteRead::Refused(r) => RegisterHeadRead::Refused(r),
-            }
-        }
-        NumberRead::Refused(r) => RegisterHeadRead::Refused(r),
-    }
-}
-
-// A register: its ID and how many instances it has. `ids` are the IDs of the registers before it, each at most `largest`, and the first `entered` are entered in an index; `total` is
-// how many instances these registers have.
-fn register_at(
-    s: &[u8],
-    at: usize,
-    ids: &[u64],
-    index: &[u16],
-    entered: usize,
-    largest: u64,
-    total: usize,
-) -> ElementRead
-    ensures { λ r. ⌜ (Indexed (now (index .entry)) (now (ids .entry)) entered
-        → (before : List Register)
-        → Tells (newAfter largest (now (ids .entry))) (map registerId before)
-        → total ≡ registerTotal before
-        → elementParsed r ≡ making registerElement (registerAt (now (s .entry)) true before at)) ⌝ }
-{
-    let top = register_head_at(s, at, ids, index, entered, largest);
-    match top {
-        RegisterHeadRead::Head(h, a) => {
-            let id = h.id;
-            let count = h.count;
-            let rest = register_instances_at(s, a, h.kind, count, total);
-            match rest {
-                NextRead::Next(end) => ElementRead::Element(id, count, end),
-                NextRead::Refused(r) => ElementRead::Refused(r),
-            }
-        }
-        RegisterHeadRead::Refused(r) => ElementRead::Refused(r),
-    }
-}
-
-// So many registers: how many instances they have. It reads each register once, and enters the IDs in an index once one is not above `largest`, which is 0 before the first.
-fn register_rows_at(s: &[u8], at: usize, n: u64) -> CountRead
-    ensures { λ r. ⌜ countParsed r ≡ making registerTotal (rowAt (registerAt (now (s .entry)) true) n [] at) ⌝ }
-{
-    let mut ids = [0u64; format::REGISTER_LIMIT];
-    let mut index = [0u16; REGISTER_PLACES];
-    let mut known = 0;
-    let mut entered = 0;
-    let mut largest = 0;
-    let mut total = 0;
-    let mut left = n;
-    let mut place = at;
-    while 0 < left {
-        let e = register_at(s, place, &ids[..known], &index, entered, largest, total);
-        match e {
-            ElementRead::Element(id, count, next) => {
-                ids[known] = id;
-                entered = enter_ids(&ids[..known + 1], &mut index, entered, largest, id);
-                largest = larger(largest, id);
-                total += count as usize;
-                place = next;
-            }
-            ElementRead::Refused(r) => {
-                return CountRead::Refused(r);
-            }
-        }
-        known += 1;
-        left -= 1;
-    }
-    CountRead::Count(total, place)
-}
-
-// The registers section.
-pub fn registers_at(s: &[u8], at: usize) -> SectionRead
-    ensures { λ r. ⌜ sectionParsed r ≡ making registerSection (registersAt (now (s .entry)) true at) ⌝ }
-{
-    let k = keyword_at(s, at, &format::REGS);
-    match k {
-        NextRead::Next(a) => {
-            let c = number_count_at(s, a, Width::Three);
-            match c {
-                NumberRead::Number(n, b) => {
-                    let rows = register_rows_at(s, b, n);
-                    match rows {
-                        CountRead::Count(total, end) => SectionRead::Section(
-                            n as usize,
-                            total,
-                            end,
-                        ),
-                        CountRead::Refused(r) => SectionRead::Refused(r),
-                    }
-                }
-                NumberRead::Refused(r) => SectionRead::Refused(r),
-            }
-        }
-        NextRead::Refused(r) => SectionRead::Refused(r),
+    let t = type_at(s, at);
+    match t {
+        ByteRead::Byte(kind, a) => register_flags_at(s, a, id, kind),
+        ByteRead::Refused(r) => RegisterHeadRead::Refused(r),
     }
 }

@@ -1,34 +1,36 @@
 -- The laws of isolation with a readings file.
-use Prim.Native.Nat.{ℕ, _/_, _≤_, _<_}
-use mathlib.Core.Bool.{Bool, true, false, cond}
+use Prim.Native.Nat.{ℕ, _*_, _/_, _≤_, _<_}
+use mathlib.Core.Bool.{Bool, true, false, cond, _&&_}
 use mathlib.Core.List.{List, [], _∷_}
+use mathlib.Core.Logic.{⊎-elim}
 use mathlib.Core.Path.{_≡_, refl, sym, _∙_, ap}
 use native.Mathlib.Omega.{arith}
-use borrow.Author.Tests.{le-leb, ne-eqb, leb-true}
-use lib.ListN.{length, take, drop, replicate, length-append, length-map, length-replicate}
-use lib.Seq.{take-at}
+use borrow.Author.Tests.{le-leb, lt-leb, ne-eqb, leb-true}
+use lib.Dec.{leb}
+use lib.ListN.{length, take, drop, replicate, length-append, length-map}
+use lib.Seq.{take-at, length-take-le}
 use Rattle.numbers.specs.BigEndian.{Bytes}
 use Rattle.numbers.proofs.Bools.{and-left, and-right}
 use Rattle.format.specs.Fields.{knownAttention}
-use Rattle.format.specs.Limits.{registerLimit}
 use Rattle.format.specs.Lookup.{gathered, entriesOf, registerEntries, nodePosition}
 use Rattle.format.specs.Parsed.{Parsed, done, refused}
 use Rattle.format.specs.Rules.{Every, Meets}
 use Rattle.format.specs.Tree.{Register, Root, Chip}
-use Rattle.format.specs.Refusals.{refusedWith}
-use Rattle.format.specs.Verdict.{verdict, check}
+use Rattle.format.specs.Verdict.{verdict}
 use Rattle.format.proofs.Acceptance.{verdict-meets}
-use Rattle.tables.specs.Tables.{keyOf}
 use Rattle.tables.specs.Keys.{registerKeys}
+use Rattle.reader.specs.Classes.{classRoom}
+use Rattle.reader.specs.Examined.{lengthsOf, roomFor}
 use Rattle.readings.specs.ReadingsFile.{readByte, valueIn, fileFits, wordsOf, readOf, placesFor, decodes, lentAfter}
 use Rattle.readings.proofs.RecordLaws.{each-length}
 use Rattle.isolation.specs.Readings.{readingsFit}
 use Rattle.format.specs.Finding.{rootFor}
 use Rattle.isolation.specs.ChipGraph.{chipGraph}
 use Rattle.listing.specs.Records.{recordSize, listing}
-use Rattle.isolation.specs.Outcome.{refusedOutcome, doneOutcome, fromRoot, isolateIn, isolate}
-use Rattle.isolation.proofs.OutcomeLaws.{succeeds-in, succeeds-out}
-use Rattle.isolation.proofs.PreparedLaws.{refused-by, answer-refused}
+use Rattle.isolation.specs.Outcome.{Outcome, refusedOutcome, fromRoot, isolateIn, isolate}
+use Rattle.isolation.specs.Ready.{bothFit, roomIn}
+use Rattle.isolation.proofs.ClassesLaws.{class-outcome, isolate-number}
+use Rattle.isolation.proofs.OutcomeLaws.{outcome-cases, succeeds-in}
 use Rattle.report.specs.Report.{fileFromRoot, isolateFileIn, isolateFile}
 
 -- An accepted file has a register instance.
@@ -73,23 +75,24 @@ module _ (file : List ℕ) (bytes : Bytes file) {c : Chip} {end : ℕ} (v : verd
     unfolding isolate isolateIn isolateFile isolateFileIn
     misfit-is e = rw v (ap (λ o. cond (knownAttention attention) o (refusedOutcome 15 0 list)) (misfit-root (rootFor attention c) e))
 
-    -- What decoding answers of it.
-    module _ {keys : List ℕ} (words read : List ℕ) (k : keys ≡ registerKeys c) where
-      pub decoded-is : {words′ read′ : List ℕ} {r : Bool} → r ≡ decodes keys readings words read → words′ ≡ lentAfter r (wordsOf keys readings) words → read′ ≡ lentAfter r (readOf keys readings) read → r ≡ true
-          → isolate file attention (take (length keys) words′) (take (length keys) read′) list ≡ isolateFile file attention readings list
-      unfolding decodes lentAfter
-      decoded-is {words′} {read′} a w u t =
-          let f : fileFits keys readings ≡ true = and-right (placesFor keys words read) _ (sym a ∙ t) in
-          let x : take (length keys) words′ ≡ wordsOf keys readings = ap (take (length keys)) (w ∙ rw t refl) ∙ take-at (wordsOf keys readings) (drop (length (wordsOf keys readings)) words) (length keys) (each-length valueIn keys readings) in
-          let y : take (length keys) read′ ≡ readOf keys readings = ap (take (length keys)) (u ∙ rw t refl) ∙ take-at (readOf keys readings) (drop (length (readOf keys readings)) read) (length keys) (each-length readByte keys readings) in
+    -- The readings that decoding leaves: those of the file, or none.
+    module _ {keys : List ℕ} (k : keys ≡ registerKeys c) where
+      left : (words read : List ℕ) (b : Bool) → fileFits keys readings ≡ b
+          → isolate file attention (take (cond b (length keys) 0) (lentAfter b (wordsOf keys readings) words)) (take (cond b (length keys) 0) (lentAfter b (readOf keys readings) read)) list
+          ≡ isolateFile file attention readings list
+      unfolding lentAfter
+      left words read true f =
+          let x = take-at (wordsOf keys readings) (drop (length (wordsOf keys readings)) words) (length keys) (each-length valueIn keys readings) in
+          let y = take-at (readOf keys readings) (drop (length (readOf keys readings)) read) (length keys) (each-length readByte keys readings) in
           rw (x, y, k) (fits-is (rw k at f))
+      left words read false f = misfit-is (rw k at f)
 
-      pub misfit-decoded : {r : Bool} → length words ≡ 1024 → length read ≡ 1024 → r ≡ decodes keys readings words read → r ≡ false
-          → isolate file attention [] [] list ≡ isolateFile file attention readings list
-      unfolding decodes placesFor registerLimit
-      misfit-decoded {r} lw lr a t =
-          let few : length keys ≤ 1024 = omega (arith, ap length k, length-map (registerEntries c) (λ e. keyOf (e .id) (e .instance .number)), meets .limits .registers) in
-          misfit-is (rw k at (sym (rw (le-leb (length keys) (length words) (omega arith), le-leb (length keys) (length read) (omega arith)) at a) ∙ t))
+      pub decoded-is : (words read : List ℕ) → length keys ≤ length words → length keys ≤ length read
+          → {n : ℕ} → n ≡ cond (decodes keys readings words read) (length keys) 0
+          → {words′ read′ : List ℕ} → words′ ≡ lentAfter (decodes keys readings words read) (wordsOf keys readings) words → read′ ≡ lentAfter (decodes keys readings words read) (readOf keys readings) read
+          → isolate file attention (take n words′) (take n read′) list ≡ isolateFile file attention readings list
+      unfolding decodes placesFor
+      decoded-is words read p q a w u = rw (a, w, u, le-leb _ _ p, le-leb _ _ q) (left words read (fileFits keys readings) refl)
 
 module _ (file : List ℕ) (attention : ℕ) (readings list : List ℕ) where
   -- A file that is refused.
@@ -97,9 +100,9 @@ module _ (file : List ℕ) (attention : ℕ) (readings list : List ℕ) where
   unfolding isolate isolateIn isolateFile isolateFileIn
   file-refused v words read = rw v
 
-  pub answer-file : {n p : ℕ} → 0 < n → refusedWith n p ≡ check file → refusedOutcome n p list ≡ isolateFile file attention readings list
-  unfolding check
-  answer-file h e = answer-refused file attention [] [] list h e ∙ file-refused (refused-by file (verdict file) refl h e) [] []
+  pub answer-file : {n p : ℕ} → verdict file ≡ refused n p → refusedOutcome n p list ≡ isolateFile file attention readings list
+  unfolding isolateFile isolateFileIn
+  answer-file v = rw v
 
   -- The answer is isolation's, with some readings.
   pub some-readings : Bytes file → (words : List ℕ) × (read : List ℕ) × (isolate file attention words read list ≡ isolateFile file attention readings list)
@@ -114,18 +117,64 @@ module _ (file : List ℕ) (attention : ℕ) (readings list : List ℕ) where
       go (done c end) v = pick c end v (fileFits (registerKeys c) readings) refl
       go (refused n p) v = ([], [], file-refused v [] [])
 
-  -- The records of a success have room in the list.
-  pub done-room : Bytes file → {r s : ℕ} {l : List ℕ} → doneOutcome r s l ≡ isolateFile file attention readings list → r ≤ length list / 8
-  unfolding recordSize
-  done-room bytes {r} {s} {l} d =
-      let x = some-readings bytes in
-      let e : isolate file attention (x .0) (x .1) list ≡ doneOutcome r s l = x .2 ∙ sym d in
-      let w = succeeds-out file attention (x .0) (x .1) list (ap (λ o. o .number) e) in
-      let k = ap (λ o. o .records) (sym (succeeds-in file attention (x .0) (x .1) list w) ∙ e) in
-      let g = chipGraph (w .chip) attention (x .0) (x .1) in
-      omega (arith, k, leb-true (length (listing g (nodePosition (w .chip) (w .root .id) (w .root .number)))) (length list / 8) (w .room))
+  -- It never is 43.
+  pub file-number : Bytes file → isolateFile file attention readings list .number ≡ 43 → ⊥
+  file-number bytes e = let x = some-readings bytes in isolate-number file attention (x .0) (x .1) list (ap (λ o. o .number) (x .2) ∙ e)
 
--- Where decoding to lists of 1,024 places answers true, there are at most as many names.
-pub decoded-few : (keys readings read : List ℕ) {r : Bool} → r ≡ decodes keys readings (replicate 1024 0) read → r ≡ true → length keys ≤ 1024
-unfolding decodes placesFor
-decoded-few keys readings read a t = omega (arith, leb-true (length keys) (length {A = ℕ} (replicate 1024 0)) (and-left _ _ (and-left _ _ (sym a ∙ t))), length-replicate {A = ℕ} 1024 0)
+  -- Its records have room in the list.
+  pub file-room : Bytes file → isolateFile file attention readings list .records ≤ length list / 8
+  unfolding recordSize
+  file-room bytes =
+      let x = some-readings bytes in
+      let e : isolate file attention (x .0) (x .1) list .records ≡ isolateFile file attention readings list .records = ap (λ o. o .records) (x .2) in
+      ⊎-elim
+      (λ r. let z : isolate file attention (x .0) (x .1) list .records ≡ 0 = ap (λ o. o .records) (r .is) in omega (arith, e, z))
+      (λ w.
+      let g = chipGraph (w .chip) attention (x .0) (x .1) in
+      let n = length (listing g (nodePosition (w .chip) (w .root .id) (w .root .number))) in
+      let k : isolate file attention (x .0) (x .1) list .records ≡ n = ap (λ o. o .records) (succeeds-in file attention (x .0) (x .1) list w) in
+      omega (arith, e, k, leb-true n (length list / 8) (w .room)))
+      (outcome-cases file attention (x .0) (x .1) list)
+
+-- The first names have places where all have.
+pub first-in : (keys : List ℕ) {m w : ℕ} → m ≤ length keys → m ≤ w → length (take m keys) ≤ w
+first-in keys {m} h k = omega (arith, length-take-le m keys h)
+
+-- The tables for the readings
+module _ (m words read : ℕ) where
+  pub short-words : words < m → false ≡ bothFit m words read
+  unfolding bothFit
+  short-words h = rw (lt-leb _ _ h)
+
+  pub read-fits : m ≤ words → leb m read ≡ bothFit m words read
+  unfolding bothFit
+  read-fits h = rw (le-leb _ _ h)
+
+  module _ {t : Bool} (e : t ≡ bothFit m words read) (b : Bool) (x s : Outcome) where
+    -- Where they have room, the others decide.
+    pub readings-room : t ≡ true → {o : Outcome} → o ≡ cond b x s → o ≡ cond (bothFit m words read && b) x s
+    readings-room h d = d ∙ ap (λ a. cond (a && b) x s) (sym h ∙ e)
+
+    pub readings-answer : t ≡ true → {y : Outcome} → y ≡ x → {o : Outcome} → o ≡ cond b y s → o ≡ cond (bothFit m words read && b) x s
+    readings-answer h k d = readings-room h (d ∙ ap (λ x. cond b x s) k)
+
+    pub readings-short : t ≡ false → s ≡ cond (bothFit m words read && b) x s
+    readings-short h = ap (λ a. cond (a && b) x s) (sym h ∙ e)
+
+  pub both-in : {t : Bool} → t ≡ bothFit m words read → t ≡ true → (m ≤ words) × (m ≤ read)
+  unfolding bothFit
+  both-in e h = let r = sym e ∙ h in (leb-true _ _ (and-left _ _ r), leb-true _ _ (and-right (leb m words) _ r))
+
+  pub readings-in : m ≤ words → m ≤ read → (b : Bool) (x s : Outcome) {o : Outcome} → o ≡ cond (bothFit m words read && b) x s → o ≡ cond b x s
+  unfolding bothFit
+  readings-in p q b x s e = rw (le-leb _ _ p, le-leb _ _ q) at e
+
+-- A class of tables, with those for the readings
+pub class-room : (m n : ℕ) (file : List ℕ) {o : Outcome} (x s : Outcome)
+    → o ≡ cond (bothFit (length (replicate {A = ℕ} m 0)) (length (replicate {A = ℕ} m 0)) (length (replicate {A = ℕ} m 0))
+    && roomIn (lengthsOf (replicate m 0) (replicate m 0) (replicate n 0) (replicate n 0) (replicate n 0) (replicate (n * 64) 0)) (length (replicate {A = ℕ} n 0)) file) x s
+    → o ≡ cond (roomFor (classRoom m n) file) x s
+unfolding bothFit
+class-room m n file x s e =
+    let h : leb (length (replicate {A = ℕ} m 0)) (length (replicate {A = ℕ} m 0)) ≡ true = le-leb _ _ (let z : length (replicate {A = ℕ} m 0) ≤ length (replicate {A = ℕ} m 0) = omega arith in z) in
+    class-outcome m n file x s (rw h at e)

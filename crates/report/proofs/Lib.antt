@@ -3,5 +3,6 @@ pub mod TextLaws
 pub mod DecimalLaws
 pub mod LineLaws
 pub mod FileLaws
+pub mod ListLaws
 pub mod SamplesHold
 pub mod StationLaws

@@ -62,6 +62,19 @@ lines-more (suc i) list =
     ap (λ u. recordLine list ++ u) (lines-more i (drop 8 list) ∙ ap (λ u. recordLines i (drop 8 list) ++ recordLine u) (drop-drop (i * 8) 8 list ∙ ap (λ k. drop k list) e))
     ∙ sym (append-assoc (recordLine list) (recordLines i (drop 8 list)) (recordLine (drop (suc i * 8) list)))
 
+-- The lines of records hang on their bytes alone.
+pub lines-same : (n : ℕ) (s t : List ℕ) → n * 8 ≤ length s → n * 8 ≤ length t → ((k : ℕ) → k < n * 8 → getD s k 0 ≡ getD t k 0) → recordLines n s ≡ recordLines n t
+unfolding recordLines
+lines-same zero s t a b h = refl
+lines-same (suc n) s t a b h =
+    let x = n * 8 in
+    let e : bitLine (getD s x 0) (getD s (x + 2) 0 * 256 + getD s (x + 3) 0) (getD s (x + 4) 0) (getD s (x + 1) 0)
+    ≡ bitLine (getD t x 0) (getD t (x + 2) 0 * 256 + getD t (x + 3) 0) (getD t (x + 4) 0) (getD t (x + 1) 0) =
+    rw (h x (omega arith), h (x + 1) (omega arith), h (x + 2) (omega arith), h (x + 3) (omega arith), h (x + 4) (omega arith)) in
+    let l : recordLine (drop x s) ≡ recordLine (drop x t) = sym (line-at s x (omega arith)) ∙ e ∙ line-at t x (omega arith) in
+    let r : recordLines n s ≡ recordLines n t = lines-same n s t (omega arith) (omega arith) (λ k i. h k (omega arith)) in
+    lines-more n s ∙ ap (λ u. u ++ recordLine (drop x s)) r ∙ ap (λ u. recordLines n t ++ u) l ∙ sym (lines-more n t)
+
 module _ (list : List ℕ) {t : List ℕ} where
   pub lines-begin : Put t 0 (recordLines 0 list) t 0
   unfolding recordLines written

@@ -6,9 +6,11 @@ use format::number;
 use isolation::Isolated;
 ghost use Prim.Native.Nat.{_+_, _*_, _≤_, _<_};
 ghost use mathlib.Core.Path.{_≡_};
-ghost use mathlib.Core.List.{_++_};
+ghost use mathlib.Core.List.{[], _++_};
+ghost use lib.Dec.{eqb};
 ghost use lib.ListN.{length, drop, set};
-ghost use Rattle.report.specs.Text.{Put, decimal, named, bitLine, recordLine, recordLines, stepsLine, refusedLine};
+ghost use Rattle.isolation.specs.Outcome.{outcomeOf};
+ghost use Rattle.report.specs.Text.{Put, decimal, named, bitLine, recordLine, recordLines, stepsLine, refusedLine, textOf};
 ghost use Rattle.report.specs.Report.{report};
 
 pub mod file;
@@ -124,18 +126,56 @@ fn put_refused(text: &mut [u8], number: u8, place: usize) -> usize
     put(text, b, b"\n")
 }
 
-// The text that the station prints for a chip data file, an attention type and a readings file, at the front of a lent text; and how many bytes it has, which are at most 152,000. A text that is too short for it holds its first part.
-pub fn report(file: &[u8], attention: u8, readings: &[u8], text: &mut [u8]) -> usize
-    ensures { λ r. ⌜ Put (now (text .entry)) 0 (report (now (file .entry)) attention (now (readings .entry))) (now (text .exit)) r ⌝ }
+// The text of an answer, by the list that its records stand in.
+fn put_answer(text: &mut [u8], a: Isolated, list: &[u8]) -> usize
+    requires { ⌜ (outcomeOf a (now list) .records ≤ 4096) × (outcomeOf a (now list) .records * 8 ≤ length (now list)) ⌝ }
+    ensures { λ r. ⌜ Put (now (text .entry)) 0 (textOf (outcomeOf a (now (list .entry)))) (now (text .exit)) r ⌝ }
     ensures { λ r. ⌜ r ≤ 152000 ⌝ }
 {
-    let mut list = [0u8; 32768];
-    let a = isolate_file(file, attention, readings, &mut list);
     match a {
-        Isolated::Done(i) => put_done(text, &list, i.records, i.steps),
+        Isolated::Done(i) => put_done(text, list, i.records, i.steps),
         Isolated::Refused(r) => {
             let kind = r.kind;
             put_refused(text, number(kind), r.place)
         }
     }
+}
+
+// Whether an answer is that the list has no room for the records.
+fn lacks_room(a: Isolated) -> bool
+    ensures { λ b. ⌜ b ≡ eqb (outcomeOf a [] .number) 19 ⌝ }
+{
+    match a {
+        Isolated::Done(_) => false,
+        Isolated::Refused(r) => {
+            let kind = r.kind;
+            number(kind) == 19
+        }
+    }
+}
+
+// The text by a list of 4,096 records.
+fn report_full(file: &[u8], attention: u8, readings: &[u8], text: &mut [u8]) -> usize
+    ensures { λ r. ⌜ Put (now (text .entry)) 0 (report (now (file .entry)) attention (now (readings .entry))) (now (text .exit)) r ⌝ }
+    ensures { λ r. ⌜ r ≤ 152000 ⌝ }
+{
+    let mut list = [0u8; 32768];
+    let a = isolate_file(file, attention, readings, &mut list);
+    put_answer(text, a, &list)
+}
+
+// The text that the station prints for a chip data file, an attention type and a readings file, at the front of a lent text; and how many bytes it has, which are at most 152,000. A text that is too short for it holds its first part. A small file's records are first written to a list of 128.
+pub fn report(file: &[u8], attention: u8, readings: &[u8], text: &mut [u8]) -> usize
+    ensures { λ r. ⌜ Put (now (text .entry)) 0 (report (now (file .entry)) attention (now (readings .entry))) (now (text .exit)) r ⌝ }
+    ensures { λ r. ⌜ r ≤ 152000 ⌝ }
+{
+    if 256 < file.len() {
+        return report_full(file, attention, readings, text);
+    }
+    let mut list = [0u8; 1024];
+    let a = isolate_file(file, attention, readings, &mut list);
+    if lacks_room(a) {
+        return report_full(file, attention, readings, text);
+    }
+    put_answer(text, a, &list)
 }

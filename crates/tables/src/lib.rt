@@ -4,7 +4,7 @@ ghost use lib.Dec.{eqb};
 ghost use lib.ListN.{getD, set};
 ghost use Rattle.format.specs.Lookup.{position};
 ghost use Rattle.tables.specs.Faults.{positionIn};
-ghost use Rattle.tables.specs.Tables.{keyOf, written};
+ghost use Rattle.tables.specs.Tables.{keyOf};
 
 pub mod positions;
 
@@ -53,15 +53,4 @@ pub fn entry(table: &[u64], k: usize) -> u64
         return table[k];
     }
     0
-}
-
-// The numbers of one table to the front of another. It reads each once.
-pub fn copy(from: &[u64], to: &mut [u64])
-    ensures { λ r. ⌜ now (to .exit) ≡ written (now (to .entry)) 0 (now (from .entry)) ⌝ }
-{
-    let mut i = 0;
-    while i < from.len() {
-        put(to, i, from[i]);
-        i += 1;
-    }
 }

@@ -14,7 +14,7 @@ use Rattle.graph.specs.Chains.{Graph, linked, names}
 use Rattle.walk.specs.declared.Walk.{Walk}
 use Rattle.walk.specs.TableGraph.{tableSize, tableGraph}
 use Rattle.walk.specs.Fold.{touched, touchedTo, touchChild}
-use Rattle.walk.specs.Marks.{markAfter, tabulate, stepped, waits, stepWalk, firstWaiting}
+use Rattle.walk.specs.Marks.{markAfter, tabulate, stepped, waits, waitingWords, stateOf, stepWalk, firstWaiting}
 
 pub length-tabulate : (n : ℕ) (f : ℕ → ℕ) → length (tabulate n f) ≡ n
 unfolding tabulate
@@ -114,6 +114,18 @@ touchedTo-all g m k l =
     ext-getD 0 _ _ (e ∙ sym (length-tabulate _ _))
     (λ j h. let h′ : j < length m = omega arith in touchedTo-at g m k l 64 j h′ ∙ sym (getD-tabulate _ _ j h′))
 
+pub same-state : {m ws : List ℕ} → ws ≡ waitingWords m → _≡_ {A = Walk} (record { marks = m; waiting = ws }) (stateOf m)
+unfolding stateOf
+same-state {m} e = ap (λ x. record { marks = m; waiting = x }) e
+
+pub state-marks : {m : List ℕ} {w : Walk} → w ≡ stateOf m → w .marks ≡ m
+unfolding stateOf
+state-marks e = ap (λ x. x .marks) e
+
+pub state-words : (m : List ℕ) {w : Walk} → w ≡ stateOf m → w .waiting ≡ waitingWords (w .marks)
+unfolding stateOf
+state-words m e = ap (λ x. x .waiting) e ∙ ap waitingWords (sym (state-marks e))
+
 -- A step, at the first waiting instance k.
 module _ (act ch : List ℕ) (w : Walk) (k n : ℕ) (e : k ≡ firstWaiting (w .marks)) (d : n ≡ tableSize act) where
   waits-not : n ≤ k → waits (tableGraph act ch) (w .marks) ≡ false
@@ -124,11 +136,11 @@ module _ (act ch : List ℕ) (w : Walk) (k n : ℕ) (e : k ≡ firstWaiting (w .
   unfolding waits tableGraph
   waits-one l = rw (← e, ← d) (lt-ltb _ _ l)
 
-  pub step-not : n ≤ k → w ≡ stepWalk (tableGraph act ch) w
-  unfolding stepWalk stepped
-  step-not l = rw (waits-not l)
+  pub step-not : w .waiting ≡ waitingWords (w .marks) → n ≤ k → w ≡ stepWalk (tableGraph act ch) w
+  unfolding stepWalk stepped stateOf
+  step-not q l = rw (waits-not l) (ap (λ x. record { marks = w .marks; waiting = x }) q)
 
-  pub step-one : {m′ : List ℕ} → k < n → k < length (w .marks) → m′ ≡ touchedTo (tableGraph act ch) (set (w .marks) k 2) k 64
-      → _≡_ {A = Walk} (record { marks = m′ }) (stepWalk (tableGraph act ch) w)
+  pub step-one : {m′ ws : List ℕ} → k < n → k < length (w .marks) → m′ ≡ touchedTo (tableGraph act ch) (set (w .marks) k 2) k 64 → ws ≡ waitingWords m′
+      → _≡_ {A = Walk} (record { marks = m′; waiting = ws }) (stepWalk (tableGraph act ch) w)
   unfolding stepWalk stepped
-  step-one l h q = ap (λ x. record { marks = x }) (q ∙ touchedTo-all (tableGraph act ch) (w .marks) k h ∙ rw (waits-one l, ← e))
+  step-one {m′} l h q r = same-state r ∙ ap stateOf (q ∙ touchedTo-all (tableGraph act ch) (w .marks) k h ∙ rw (waits-one l, ← e))

@@ -120,8 +120,9 @@ module _ (g : Graph) (sound-graph : Sound g) (root : ℕ) (root-in : root < g .s
         go (fresh n l x d) = omega arith
         go (kept n f d) = let h = w .small i in omega arith
 
-    other : (i : ℕ) → (i ≡ firstWaiting m → ⊥) → eqb (getD (stepped g m) i 0) 2 ≡ eqb (getD m i 0) 2
-    other i = go (at i)
+    -- A step leaves what is done of all but the taken node instance.
+    pub walked-others : (i : ℕ) → (i ≡ firstWaiting m → ⊥) → eqb (getD (stepped g m) i 0) 2 ≡ eqb (getD m i 0) 2
+    walked-others i = go (at i)
       where
         go : {v : ℕ} → After g m (firstWaiting m) i v → (i ≡ firstWaiting m → ⊥) → eqb v 2 ≡ eqb (getD m i 0) 2
         go (done e d) z = absurd (z e)
@@ -139,7 +140,7 @@ module _ (g : Graph) (sound-graph : Sound g) (root : ℕ) (root-in : root < g .s
     counted′ : s + 1 ≡ count (g .size) (λ i. eqb (getD (stepped g m) i 0) 2)
     counted′ =
         let c = count-one (g .size) (λ i. eqb (getD m i 0) 2) (λ i. eqb (getD (stepped g m) i 0) 2) (firstWaiting m) k-in
-        (rw k-waits) (eq-eqb _ 2 k-done) (λ i n h. other i n) in
+        (rw k-waits) (eq-eqb _ 2 k-done) (λ i n h. walked-others i n) in
         omega (arith, c, w .counted)
 
     pub walked-step : Walking g root (stepped g m) (s + 1)

@@ -1,9 +1,10 @@
 -- The marks of the walk (document 01): 0 untouched, 1 waiting, 2 done.
-use Prim.Native.Nat.{ℕ, zero, suc}
+use Prim.Native.Nat.{ℕ, zero, suc, _+_, _*_, _/_}
 use mathlib.Core.Bool.{Bool, cond, _&&_}
 use mathlib.Core.List.{List, [], _∷_}
 use lib.Dec.{ltb, eqb}
 use lib.ListN.{length, getD}
+use Rattle.numbers.specs.Bits.{wordOf}
 use Rattle.graph.specs.Chains.{Graph, linked, reachedFrom, reachedCount}
 use Rattle.walk.specs.declared.Walk.{Walk}
 use Rattle.walk.specs.declared.Walked.{Walked}
@@ -30,8 +31,16 @@ markAfter g m k j = cond (eqb j k) 2 (cond (linked g k j && eqb (getD m j 0) 0) 
 unfoldable pub stepped : Graph → List ℕ → List ℕ
 stepped g m = cond (waits g m) (tabulate (length m) (markAfter g m (firstWaiting m))) m
 
+-- The waiting node instances as bits: bit b of word j is set exactly where mark 64 * j + b is 1. One word for each 64 marks.
+unfoldable pub waitingWords : List ℕ → List ℕ
+waitingWords m = tabulate (length m / 64) (λ j. wordOf 64 (λ b. eqb (getD m (j * 64 + b) 0) 1))
+
+-- The walk's state at some marks.
+unfoldable pub stateOf : List ℕ → Walk
+stateOf m = record { marks = m; waiting = waitingWords m }
+
 unfoldable pub stepWalk : Graph → Walk → Walk
-stepWalk g w = record { marks = stepped g (w .marks) }
+stepWalk g w = stateOf (stepped g (w .marks))
 
 -- "The start (root waiting, others untouched)."
 unfoldable pub started : ℕ → List ℕ

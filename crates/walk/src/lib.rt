@@ -1,16 +1,18 @@
 // The walk over a graph of node instances that two lent tables give: a word of active bits for each instance, and 64 places for the children of each.
 ghost use mathlib.Core.Path.{_≡_};
-ghost use Prim.Native.Nat.{_≤_, _<_};
+ghost use mathlib.Core.List.{List};
+ghost use Prim.Native.Nat.{ℕ, _*_, _≤_, _<_};
 ghost use lib.Dec.{ltb};
 ghost use lib.ListN.{length};
 ghost use Rattle.walk.specs.TableGraph.{tableSize, childAt, tableGraph};
-ghost use Rattle.walk.specs.Marks.{firstWaiting, stepWalk, started, finished};
+ghost use Rattle.walk.specs.Marks.{firstWaiting, waitingWords, stateOf, stepWalk, started, finished};
 ghost use Rattle.walk.specs.Steps.{StepCount};
 ghost use Rattle.walk.specs.Fold.{orElse, touchChild, touchedTo};
 
-// The walk's state: a mark for each of 256 node instances: 0 untouched, 1 waiting, 2 done.
+// The walk's state: a mark for each of 256 node instances: 0 untouched, 1 waiting, 2 done; and the waiting ones as the bits of words, 64 in each.
 pub struct Walk {
     pub marks: [u8; 256],
+    pub waiting: [u64; 4],
 }
 
 // A walk that has come to its end, and how many steps it took.
@@ -27,18 +29,20 @@ pub fn size(active: &[u64]) -> usize
     if n < 256 { n } else { 256 }
 }
 
-// The first waiting instance, or the number of marks. It looks at each mark once, up to that one.
-fn first_waiting(m: &[u8]) -> usize
-    ensures { λ r. ⌜ r ≡ firstWaiting (now (m .entry)) ⌝ }
+// The first waiting instance, or the number of marks. It looks at each word once, up to the first that has a bit.
+fn first_waiting(words: &[u64]) -> usize
+    requires { ⌜ length (now words) ≤ 65536 ⌝ }
+    ensures { λ r. ⌜ ((m : List ℕ) → length m ≡ length (now (words .entry)) * 64 → now (words .entry) ≡ waitingWords m → r ≡ firstWaiting m) ⌝ }
 {
-    let mut i = 0;
-    while i < m.len() {
-        if m[i] == 1 {
-            return i;
+    let mut j = 0;
+    while j < words.len() {
+        let x = words[j];
+        if x != 0 {
+            return j * 64 + numbers::next_bit(x) as usize;
         }
-        i += 1;
+        j += 1;
     }
-    i
+    j * 64
 }
 
 // The child at a place of the table, or n where there is none.
@@ -55,10 +59,11 @@ pub fn child_at(n: usize, child: &[u16], k: usize) -> usize
     c
 }
 
-// The child at a place of the table, if there is one and it is untouched, waits.
-fn touch(m: &mut [u8], child: &[u16], n: usize, k: usize)
-    requires { ⌜ (n ≤ 256) × (length (now m) ≡ 256) ⌝ }
+// The child at a place of the table, if there is one and it is untouched, waits: its mark and its bit say so.
+fn touch(m: &mut [u8], words: &mut [u64], child: &[u16], n: usize, k: usize)
+    requires { ⌜ (n ≤ length (now m)) × (length (now m) ≡ length (now words) * 64) ⌝ }
     ensures { λ r. ⌜ now (m .exit) ≡ touchChild (now (m .entry)) (childAt n (now (child .entry)) k) ⌝ }
+    ensures { λ r. ⌜ (now (words .entry) ≡ waitingWords (now (m .entry)) → now (words .exit) ≡ waitingWords (now (m .exit))) ⌝ }
 {
     let c = child_at(n, child, k);
     if n <= c {
@@ -68,17 +73,21 @@ fn touch(m: &mut [u8], child: &[u16], n: usize, k: usize)
         return;
     }
     m[c] = 1;
+    let j = c / 64;
+    let x = numbers::with_bit(words[j], (c % 64) as u8);
+    words[j] = x;
 }
 
 // The untouched children of the instance k wait. It looks at each of its active bits once, and at no other.
-fn touch_all(m: &mut [u8], active: &[u64], child: &[u16], n: usize, k: usize)
-    requires { ⌜ (n ≡ tableSize (now active)) × (length (now m) ≡ 256) × (k < n) ⌝ }
+fn touch_all(m: &mut [u8], words: &mut [u64], active: &[u64], child: &[u16], n: usize, k: usize)
+    requires { ⌜ (n ≡ tableSize (now active)) × (length (now m) ≡ 256) × (k < n) × (length (now m) ≡ length (now words) * 64) ⌝ }
     ensures { λ r. ⌜ now (m .exit) ≡ touchedTo (tableGraph (now (active .entry)) (now (child .entry))) (now (m .entry)) k 64 ⌝ }
+    ensures { λ r. ⌜ (now (words .entry) ≡ waitingWords (now (m .entry)) → now (words .exit) ≡ waitingWords (now (m .exit))) ⌝ }
 {
     let mut rest = active[k];
     while rest != 0 {
         let b = numbers::next_bit(rest);
-        touch(m, child, n, k * 64 + b as usize);
+        touch(m, words, child, n, k * 64 + b as usize);
         rest = numbers::without_next(rest);
     }
 }
@@ -86,37 +95,61 @@ fn touch_all(m: &mut [u8], active: &[u64], child: &[u16], n: usize, k: usize)
 impl Walk {
     // The root waits, and nothing else is touched.
     pub fn start(root: usize) -> Walk
-        ensures { λ r. ⌜ r .marks ≡ started root ⌝ }
+        ensures { λ r. ⌜ r ≡ stateOf (started root) ⌝ }
     {
         let mut m = [0u8; 256];
+        let mut words = [0u64; 4];
         if root < 256 {
             m[root] = 1;
-            return Walk { marks: m };
+            let j = root / 64;
+            let x = numbers::with_bit(words[j], (root % 64) as u8);
+            words[j] = x;
+            return Walk {
+                marks: m,
+                waiting: words,
+            };
         }
-        Walk { marks: m }
+        Walk {
+            marks: m,
+            waiting: words,
+        }
+    }
+
+    // The first waiting instance, or the number of marks.
+    pub fn first(self) -> usize
+        ensures { λ r. ⌜ (self .waiting ≡ waitingWords (self .marks) → r ≡ firstWaiting (self .marks)) ⌝ }
+    {
+        let words = self.waiting;
+        first_waiting(&words)
     }
 
     // One of the first n instances waits.
     pub fn waiting(self, n: usize) -> bool
-        ensures { λ r. ⌜ r ≡ ltb (firstWaiting (self .marks)) n ⌝ }
+        ensures { λ r. ⌜ (self .waiting ≡ waitingWords (self .marks) → r ≡ ltb (firstWaiting (self .marks)) n) ⌝ }
     {
-        let m = self.marks;
-        first_waiting(&m) < n
+        self.first() < n
     }
 
     // The first waiting instance is done, and its untouched children wait; no other mark changes. With none waiting nothing changes.
     pub fn step(self, active: &[u64], child: &[u16]) -> Walk
-        ensures { λ r. ⌜ r ≡ stepWalk (tableGraph (now (active .entry)) (now (child .entry))) self ⌝ }
+        ensures { λ r. ⌜ (self .waiting ≡ waitingWords (self .marks) → r ≡ stepWalk (tableGraph (now (active .entry)) (now (child .entry))) self) ⌝ }
     {
         let mut m = self.marks;
+        let mut words = self.waiting;
         let n = size(active);
-        let k = first_waiting(&m);
+        let k = first_waiting(&words);
         if n <= k {
             return self;
         }
         m[k] = 2;
-        touch_all(&mut m, active, child, n, k);
-        Walk { marks: m }
+        let j = k / 64;
+        let x = numbers::without_next(words[j]);
+        words[j] = x;
+        touch_all(&mut m, &mut words, active, child, n, k);
+        Walk {
+            marks: m,
+            waiting: words,
+        }
     }
 }
 

@@ -1,12 +1,12 @@
-use Prim.Native.Nat.{_≤_}
+use Prim.Native.Nat.{ℕ, _≤_}
 use mathlib.Core.Path.{sym}
 use native.Mathlib.Omega.{arith}
-use lib.ListN.{length}
+use lib.ListN.{length, replicate, length-replicate}
 use lib.Seq.{length-take-le}
 use borrow.Author.Needs.{needs}
 use Rattle.format.specs.Limits.{registerLimit}
 use Rattle.format.specs.Lookup.{registerEntries}
-use Rattle.reader.proofs.FaultsLaws.{laid, register-tables}
+use Rattle.reader.proofs.FaultsLaws.{laid, register-keys, register-kinds, register-places}
 use Rattle.reader.proofs.NameLaws.{layout-meets}
 use Rattle.reader.proofs.address.laid_address.Statement.{statement}
 use Rattle.reader.proofs.address.laid_address.Tie as tie
@@ -52,8 +52,10 @@ unfolding registerEntries
 returns c =
     λ chip layout file.
     let d = laid _ (λ i. c .before .before .before .before .before .before .before .before .before .before .before .shared-slice-known .given i .fits) chip layout file in
-    let t = register-tables chip _ (d .registerCount) (d .registerRoom) (c .before .before .before .before .before .before .before .fill-registers .ensures _ _ (d .registers)) in
-    c .table-address .ensures chip (layout-meets _ (λ i. c .before .before .before .before .before .before .before .before .before .before .before .shared-slice-known .given i .fits) file .fields) (t .0) (t .1) (t .2)
+    let h : c .before .before .before .before .before .before .before .before .before .before .before .before .args .l .«register_instances» ≤ length (replicate {A = ℕ} 1024 0) = rw (length-replicate {A = ℕ} 1024 0) (omega (arith, d .registerCount, d .registerRoom)) in
+    let r = c .before .before .before .before .before .before .before .fill-registers .ensures _ _ (d .registers) in
+    c .table-address .ensures chip (layout-meets _ (λ i. c .before .before .before .before .before .before .before .before .before .before .before .shared-slice-known .given i .fits) file .fields)
+    (register-keys chip _ _ (d .registerCount) r h) (register-kinds chip _ _ (d .registerCount) r h) (register-places chip _ _ (d .registerCount) r h)
 
 pub laid-address-spec : {M : Type 1} → statement M
 laid-address-spec =

@@ -4,7 +4,7 @@ use native.Mathlib.Omega.{arith}
 use borrow.Author.Needs.{needs}
 use Rattle.format.specs.Lookup.{nodeEntries}
 use Rattle.fields.specs.Views.{nextParsed}
-use Rattle.reader.proofs.NameLaws.{entries-again, names-refused, names-roots}
+use Rattle.reader.proofs.NameLaws.{entries-again, children-of, names-refused, names-roots}
 use Rattle.reader.proofs.faults.name_faults.Statement.{statement}
 use Rattle.reader.proofs.faults.name_faults.Tie as tie
 
@@ -14,7 +14,7 @@ returns c =
     let e = c .before .enum-told .given .1 in (
       λ chip end file roots tables j k. names-roots _ (λ i. c .before .before .before .before .before .before .before .before .before .before .before .before .before .before .before .shared-slice-known .given i .fits) _ _ _ _ _ chip end file tables
           (f .0 j k) (ap nextParsed e) _ (c .root-faults .ensures) roots,
-      λ chip end next r file tables j k. f .1 _ e j k (nodeEntries chip) (entries-again _ file) (tables .places-are) (tables .wanted-are),
+      λ chip end next r file tables j k. children-of chip _ _ (tables .nodes-are) (f .1 _ e j k (nodeEntries chip) (entries-again _ file) (tables .places-are) (tables .wanted-are)),
     )
 
 returns-2 : tie.Need-returns-2

@@ -1,0 +1,219 @@
+-- A file in lent tables: room, the answer, and what the tables hold.
+use Prim.Native.Nat.{ℕ, _*_, _/_, _≤_, _<_}
+use mathlib.Core.Bool.{Bool, true, false, cond}
+use mathlib.Core.List.{List, map}
+use mathlib.Core.Logic.{_⊎_, inl, inr}
+use mathlib.Core.Path.{_≡_, refl, sym, _∙_, ap, subst}
+use native.Mathlib.Omega.{arith}
+use lib.Dec.{leb}
+use lib.ListN.{length, take, drop}
+use borrow.Author.Tests.{le-leb, lt-leb, leb-true}
+use Rattle.numbers.specs.BigEndian.{Bytes}
+use Rattle.numbers.proofs.Bools.{and-left, and-right, same-truth}
+use Rattle.format.specs.FileLayout.{fileAt}
+use Rattle.format.specs.Lookup.{gathered, entriesOf, nodeEntriesOf, registerEntries, nodeEntries}
+use Rattle.format.specs.Parsed.{Parsed, done, refused, making}
+use Rattle.format.specs.declared.Refusal.{Refusal}
+use Rattle.format.specs.Refusals.{CheckValues, numberOf}
+use Rattle.format.specs.Tree.{Chip}
+use Rattle.format.specs.Verdict.{verdict, countsOf}
+use Rattle.format.proofs.Acceptance.{verdict-meets}
+use Rattle.format.proofs.ParsedLaws.{never}
+use Rattle.fields.proofs.Parsing.{missed}
+use Rattle.tables.specs.Indexed.{IndexOf}
+use Rattle.tables.specs.Keys.{registerKeys, nodeKeys}
+use Rattle.tables.specs.Tables.{written}
+use Rattle.tables.proofs.TablesLaws.{written-front}
+use Rattle.index.specs.Columns.{TablesOf, nodePlaces}
+use Rattle.index.specs.Rows.{Rows, filled, registerRow, nodeRow, pair}
+use Rattle.links.specs.Links.{childRow}
+use Rattle.reader.specs.declared.Layout.{Layout}
+use Rattle.reader.specs.declared.LayoutRead
+use Rattle.reader.specs.declared.LayoutRead.{LayoutRead}
+use Rattle.reader.specs.Columns.{childColumn}
+use Rattle.reader.specs.Examined.{Lengths, roomOf, roomForLayout, roomFor, Examined}
+use Rattle.reader.specs.Layout.{Summary, laidOut, layoutParsed, layoutValues, wholeAt}
+use Rattle.reader.proofs.ChildPlacesLaws.{places-length}
+use Rattle.reader.proofs.ColumnsLaws.{child-column}
+use Rattle.reader.proofs.ExamineLaws.{examined-refused}
+use Rattle.reader.proofs.FaultsLaws.{Laid, laid, register-keys, register-kinds, node-tables}
+use Rattle.reader.proofs.WholeLaws.{whole-out}
+
+-- Room
+
+-- Whole rows of 64.
+by-rows : (n c : ℕ) → leb n (c / 64) ≡ leb (n * 64) c
+by-rows n c =
+    same-truth (leb n (c / 64)) (leb (n * 64) c)
+    (λ e. let h : n ≤ c / 64 = leb-true _ _ e in le-leb (n * 64) c (omega arith))
+    (λ e. let h : n * 64 ≤ c = leb-true _ _ e in le-leb n (c / 64) (omega arith))
+
+module _ (t : Lengths) (m n : ℕ) where
+  pub room-keys : t .keys < m → false ≡ roomOf t m n
+  unfolding roomOf
+  room-keys h = rw (lt-leb _ _ h)
+
+  module _ (a : m ≤ t .keys) where
+    pub room-kinds : t .kinds < m → false ≡ roomOf t m n
+    unfolding roomOf
+    room-kinds h = rw (le-leb _ _ a, lt-leb _ _ h)
+
+    module _ (b : m ≤ t .kinds) where
+      pub room-names : t .names < n → false ≡ roomOf t m n
+      unfolding roomOf
+      room-names h = rw (le-leb _ _ a, le-leb _ _ b, lt-leb _ _ h)
+
+      module _ (d : n ≤ t .names) where
+        pub room-wanted : t .wanted < n → false ≡ roomOf t m n
+        unfolding roomOf
+        room-wanted h = rw (le-leb _ _ a, le-leb _ _ b, le-leb _ _ d, lt-leb _ _ h)
+
+        module _ (e : n ≤ t .wanted) where
+          pub room-places : t .places < n → false ≡ roomOf t m n
+          unfolding roomOf
+          room-places h = rw (le-leb _ _ a, le-leb _ _ b, le-leb _ _ d, le-leb _ _ e, lt-leb _ _ h)
+
+          pub room-child : n ≤ t .places → leb n (t .child / 64) ≡ roomOf t m n
+          unfolding roomOf
+          room-child h = rw (le-leb _ _ a, le-leb _ _ b, le-leb _ _ d, le-leb _ _ e, le-leb _ _ h) (by-rows n (t .child))
+
+  -- What tables with room have.
+  pub record Roomy : Type 0 where
+    pub keys : m ≤ t .keys
+    pub kinds : m ≤ t .kinds
+    pub names : n ≤ t .names
+    pub wanted : n ≤ t .wanted
+    pub places : n ≤ t .places
+    pub child : n * 64 ≤ t .child
+
+  pub roomy : true ≡ roomOf t m n → Roomy
+  unfolding roomOf
+  roomy e =
+      let r₀ = sym e in
+      let r₁ = and-right (leb m (t .keys)) _ r₀ in
+      let r₂ = and-right (leb m (t .kinds)) _ r₁ in
+      let r₃ = and-right (leb n (t .names)) _ r₂ in
+      let r₄ = and-right (leb n (t .wanted)) _ r₃ in
+      record {
+        keys = leb-true _ _ (and-left _ _ r₀);
+        kinds = leb-true _ _ (and-left _ _ r₁);
+        names = leb-true _ _ (and-left _ _ r₂);
+        wanted = leb-true _ _ (and-left _ _ r₃);
+        places = leb-true _ _ (and-left _ _ r₄);
+        child = leb-true _ _ (and-right (leb n (t .places)) _ r₄);
+      }
+
+-- Tables that keep their lengths have the same room.
+pub same-room : (child : ℕ) {a b d f g t u x y z : ℕ} → t ≡ f → u ≡ g → x ≡ a → y ≡ b → z ≡ d → (m n : ℕ)
+    → roomOf (record { keys = t; kinds = u; names = x; wanted = y; places = z; child = child }) m n ≡ roomOf (record { keys = f; kinds = g; names = a; wanted = b; places = d; child = child }) m n
+same-room child h i j k l m n = rw (h, i, j, k, l)
+
+-- The answer
+
+module _ (t : Lengths) (s : List ℕ) where
+  room-refused : {n p : ℕ} → refused n p ≡ wholeAt s → roomFor t s ≡ true
+  unfolding roomFor roomForLayout
+  room-refused e = rw (← e)
+
+  pub room-laid : {l : Summary} {end : ℕ} → done l end ≡ wholeAt s → roomFor t s ≡ roomOf t (l .registerInstances) (l .nodeInstances)
+  unfolding roomFor roomForLayout
+  room-laid e = rw (← e)
+
+  -- A layout that is refused.
+  pub in-refused : {n p : ℕ} → refused n p ≡ wholeAt s → refused n p ≡ cond (roomFor t s) (making countsOf (verdict s)) (refused 43 0)
+  in-refused e = rw (room-refused e) (examined-refused s e)
+
+  module _ {l : Summary} {end : ℕ} (w : done l end ≡ wholeAt s) where
+    -- A table that is too short.
+    pub in-short : {b : Bool} → b ≡ roomOf t (l .registerInstances) (l .nodeInstances) → b ≡ false → refused 43 0 ≡ cond (roomFor t s) (making countsOf (verdict s)) (refused 43 0)
+    in-short r e = rw (room-laid w ∙ sym r ∙ e)
+
+    -- Tables with room.
+    pub in-roomy : {b : Bool} → b ≡ roomOf t (l .registerInstances) (l .nodeInstances) → b ≡ true → {x : Parsed CheckValues} → x ≡ making countsOf (verdict s)
+        → x ≡ cond (roomFor t s) (making countsOf (verdict s)) (refused 43 0)
+    in-roomy r e d = rw (room-laid w ∙ sym r ∙ e) d
+
+  -- What an answer says of the room and of the verdict.
+  module _ {r : LayoutRead} (is : making layoutValues (layoutParsed r) ≡ cond (roomFor t s) (making countsOf (verdict s)) (refused 43 0)) where
+    pub done-room : {l : Layout} → r ≡ LayoutRead.Done l → roomFor t s ≡ true
+    unfolding making
+    done-room {l} e = go (roomFor t s) (sym (ap (λ r. making layoutValues (layoutParsed r)) e) ∙ is)
+      where
+        go : (b : Bool) → done (layoutValues (laidOut l)) (l .end) ≡ cond b (making countsOf (verdict s)) (refused 43 0) → b ≡ true
+        go true e = refl
+        go false e = never (sym e)
+
+    pub refused-room : {x : Refusal} → r ≡ LayoutRead.Refused x
+        → ((roomFor t s ≡ true) × (verdict s ≡ refused (numberOf (x .kind)) (x .place))) ⊎ ((roomFor t s ≡ false) × (numberOf (x .kind) ≡ 43) × (x .place ≡ 0))
+    unfolding making
+    refused-room {x} e = go (roomFor t s) (sym (ap (λ r. making layoutValues (layoutParsed r)) e) ∙ is)
+      where
+        go : (b : Bool) → refused (numberOf (x .kind)) (x .place) ≡ cond b (making countsOf (verdict s)) (refused 43 0)
+            → ((b ≡ true) × (verdict s ≡ refused (numberOf (x .kind)) (x .place))) ⊎ ((b ≡ false) × (numberOf (x .kind) ≡ 43) × (x .place ≡ 0))
+        go true e = inl (refl, missed countsOf (verdict s) e)
+        go false e = inr (refl, (let z : numberOf (x .kind) ≡ 43 = cc in z), (let z : x .place ≡ 0 = cc in z))
+
+-- The tables
+
+-- The rows of a layout's instances are the tables of its chip.
+pub laid-tables : {s : List ℕ} {l : Summary} {end : ℕ} {c : Chip} → Laid s l end c → (keys₀ kinds₀ names₀ wanted₀ places₀ : List ℕ) (child : ℕ) {keys kinds names wanted places : List ℕ}
+    → Roomy (record { keys = length keys₀; kinds = length kinds₀; names = length names₀; wanted = length wanted₀; places = length places₀; child = child }) (l .registerInstances) (l .nodeInstances)
+    → pair keys kinds ≡ filled (pair keys₀ kinds₀) 0 (map registerRow (gathered entriesOf (c .registers)))
+    → _≡_ {A = Rows} (record { keys = names; kinds = wanted; places = places }) (filled (record { keys = names₀; kinds = wanted₀; places = places₀ }) 0 (map nodeRow (gathered nodeEntriesOf (c .nodes))))
+    → TablesOf c (take (l .registerInstances) keys) (take (l .registerInstances) kinds) (take (l .nodeInstances) names) (take (l .nodeInstances) wanted) (take (l .nodeInstances) places)
+unfolding registerEntries nodeEntries
+laid-tables {c = c} d keys₀ kinds₀ names₀ wanted₀ places₀ child r e f =
+    let n = node-tables c _ _ (d .nodeCount) (r .names) (r .wanted) (r .places) f in
+    record {
+      keys-are = register-keys c _ _ (d .registerCount) e (r .keys);
+      kinds-are = register-kinds c _ _ (d .registerCount) e (r .kinds);
+      nodes-are = n .0;
+      wanted-are = n .1;
+      places-are = n .2;
+    }
+
+module _ (s : List ℕ) (bytes : Bytes s) (l : Layout) (w : done (laidOut l) (l .end) ≡ wholeAt s) where
+  abbrev pub the-chip : Chip
+  the-chip = whole-out s w .parts .chip
+
+  pub file-is : fileAt s true 0 ≡ done the-chip (l .end)
+  file-is = whole-out s w .parts .file
+
+  pub laid-is : Laid s (laidOut l) (l .end) the-chip
+  laid-is = laid s bytes the-chip (sym (whole-out s w .layout)) file-is
+
+  children-room : (table : List ℕ) → l .«node_instances» * 64 ≤ length table → length (childColumn the-chip) ≤ length table
+  children-room table h = let k = places-length the-chip (nodeEntries the-chip) in let e = laid-is .nodeCount in omega arith
+
+  -- The tables of an accepted file, as they are filled.
+  pub examined : verdict s ≡ done the-chip (l .end) → {keys index names places child : List ℕ} (table : List ℕ)
+      → l .«register_instances» ≤ length keys → l .«node_instances» ≤ length names → l .«node_instances» ≤ length places → l .«node_instances» * 64 ≤ length table
+      → take (l .«register_instances») keys ≡ registerKeys the-chip → IndexOf index (take (l .«register_instances») keys)
+      → take (l .«node_instances») names ≡ nodeKeys the-chip → take (l .«node_instances») places ≡ nodePlaces the-chip
+      → child ≡ written table 0 (gathered (λ e. childRow (nodeKeys the-chip) (e .instance)) (nodeEntries the-chip))
+      → Examined s l keys index names places child
+  examined v table a b d h k i n p e =
+      record {
+        chip = the-chip;
+        end = l .end;
+        accepted = v;
+        whole = w;
+        registers = laid-is .registerCount;
+        nodes = laid-is .nodeCount;
+        roots = laid-is .roots;
+        registers-in = a;
+        nodes-in = b;
+        places-in = d;
+        keys-are = k;
+        indexed = i;
+        names-are = n;
+        places-are = p;
+        rest = drop (length (childColumn the-chip)) table;
+        children-are =
+            e ∙ ap (written table 0) (child-column the-chip (verdict-meets s bytes v)) ∙ written-front table (childColumn the-chip) (children-room table h);
+      }
+
+-- Two answers that are one hold the same tables.
+pub same-layout : (s : List ℕ) {l k : Layout} → LayoutRead.Done l ≡ LayoutRead.Done k → {keys index names places child : List ℕ} → Examined s l keys index names places child
+    → Examined s k keys index names places child
+same-layout s {l} {k} e {keys} {index} {names} {places} {child} x = let z : l ≡ k = cc in subst (λ l. Examined s l keys index names places child) z x

@@ -1,0 +1,27 @@
+use mathlib.Core.Path.{sym, _∙_, ap}
+use borrow.Author.Needs.{needs}
+use Rattle.reader.specs.Layout.{layoutParsed}
+use Rattle.reader.proofs.ClassesLaws.{class-answer}
+use Rattle.reader.proofs.WholeLaws.{whole-out}
+use Rattle.reader.proofs.classes.examine_small.Statement.{statement}
+use Rattle.reader.proofs.classes.examine_small.Tie as tie
+
+returns : tie.Need-returns
+returns c =
+    let x = c .before .before .before .before .before .before .before .before .examine-in .ensures in
+    (class-answer 32 8 _ (x .0), λ l e. ap layoutParsed e ∙ sym (whole-out _ (x .1 l e .whole) .layout))
+
+pub examine-small-spec : {M : Type 1} → statement M
+examine-small-spec =
+    tie.close
+    (tie.spec
+    (λ c. search needs)
+    (λ c. search needs)
+    (λ c. search needs)
+    (λ c. search needs)
+    (λ c. search needs)
+    (λ c. search needs)
+    (λ c. search needs)
+    (λ c. search needs)
+    (λ c κs. search needs)
+    returns)

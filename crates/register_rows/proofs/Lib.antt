@@ -1,0 +1,3 @@
+-- The laws of the registers section.
+pub mod RisingLaws
+pub mod SectionLaws

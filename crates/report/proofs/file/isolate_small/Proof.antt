@@ -1,0 +1,26 @@
+use Rattle.report.proofs.FileLaws.{class-room}
+use borrow.Author.Needs.{needs}
+use Rattle.report.proofs.file.isolate_small.Statement.{statement}
+use Rattle.report.proofs.file.isolate_small.Tie as tie
+
+returns : tie.Need-returns
+returns c = class-room 32 8 _ _ _ (c .before .before .before .before .before .before .before .before .before .before .before .before .before .isolate-in .ensures)
+
+pub isolate-small-spec : {M : Type 1} → statement M
+isolate-small-spec =
+    tie.close
+    (tie.spec
+    (λ c. search needs)
+    (λ c. search needs)
+    (λ c. search needs)
+    (λ c. search needs)
+    (λ c. search needs)
+    (λ c. search needs)
+    (λ c. search needs)
+    (λ c. search needs)
+    (λ c. search needs)
+    (λ c. search needs)
+    (λ c. search needs)
+    (λ c κs. search needs)
+    (λ c. search needs)
+    returns)
