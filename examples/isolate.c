@@ -12,8 +12,9 @@
 
 #include "lutemarble.h"
 
-/* One byte more than a file may have, so that a longer file is seen to be longer. */
-static uint8_t chip[LUTEMARBLE_FILE_BYTES + 1];
+/* One byte more than a file may have for the station, so that a longer file is seen to be longer. The other calls of the
+ * library take files of up to LUTEMARBLE_FILE_BYTES. */
+static uint8_t chip[LUTEMARBLE_REPORT_FILE_BYTES + 1];
 static uint8_t readings[LUTEMARBLE_READINGS_BYTES + 1];
 static uint8_t text[LUTEMARBLE_TEXT_BYTES];
 

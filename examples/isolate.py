@@ -14,10 +14,11 @@ import os
 import pathlib
 import sys
 
-FILE_BYTES = 65536       # of the longest chip data file
-READINGS_BYTES = 16384   # of the longest readings file
-LIST_BYTES = 131072      # of a list that has room for every answer
-TEXT_BYTES = 152000      # of a text that has room for every answer
+FILE_BYTES = 1048576       # of the longest chip data file of check, address and isolate
+REPORT_FILE_BYTES = 65536  # of the longest chip data file of report, which has the station's limits
+READINGS_BYTES = 16384     # of the longest readings file
+LIST_BYTES = 524288        # of a list that has room for every answer
+TEXT_BYTES = 152000        # of a text that has room for every answer
 
 Summary = collections.namedtuple('Summary', 'model registers register_instances nodes node_instances roots')
 Record = collections.namedtuple('Record', 'type bit node instance')
@@ -93,7 +94,7 @@ def isolate(file, attention_type, readings):
 
 
 def report(file, attention_type, readings):
-    """The station's text, as bytes. The readings are the bytes of a readings file."""
+    """The station's text, as bytes, by the station's limits. The readings are the bytes of a readings file."""
     file, readings = bytes(file), bytes(readings)
     room = ctypes.create_string_buffer(TEXT_BYTES)
     length = _calls.lutemarble_report(file, len(file), attention_type, readings, len(readings), room, TEXT_BYTES)
@@ -119,7 +120,7 @@ def main(arguments):
     if not (kind.isascii() and kind.isdigit() and int(kind) <= 255):
         print("isolate: the type is a number from 0 to 255, not '%s'" % kind, file=sys.stderr)
         return 2
-    text = report(load(chip, FILE_BYTES), int(kind), load(readings, READINGS_BYTES))
+    text = report(load(chip, REPORT_FILE_BYTES), int(kind), load(readings, READINGS_BYTES))
     sys.stdout.buffer.write(text)
     return 1 if text.startswith(b'refused ') else 0
 

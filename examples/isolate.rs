@@ -14,15 +14,19 @@ use std::io::{Read, Write};
 use std::process::ExitCode;
 
 /// The proved library. include/lutemarble.h says what holds of every call. A
-/// thread needs so much stack that the call fits: 160 KB are enough for each.
+/// thread needs so much stack that the call fits: 640 KB are enough for each.
 #[allow(dead_code)]
 pub mod lutemarble {
-    /// The bytes of the longest chip data file.
-    pub const FILE_BYTES: usize = 65_536;
+    /// The bytes of the longest chip data file of `check`, `address` and
+    /// `isolate`.
+    pub const FILE_BYTES: usize = 1_048_576;
+    /// The bytes of the longest chip data file of `report`, which has the
+    /// station's limits.
+    pub const REPORT_FILE_BYTES: usize = 65_536;
     /// The bytes of the longest readings file.
     pub const READINGS_BYTES: usize = 16_384;
     /// The bytes of a list that has room for every answer.
-    pub const LIST_BYTES: usize = 131_072;
+    pub const LIST_BYTES: usize = 524_288;
     /// The bytes of a text that has room for every answer.
     pub const TEXT_BYTES: usize = 152_000;
 
@@ -186,7 +190,7 @@ pub mod lutemarble {
         Ok((listed, steps))
     }
 
-    /// The station's text, that of a refusal in `Err`.
+    /// The station's text by the station's limits, that of a refusal in `Err`.
     pub fn report(file: &[u8], attention_type: u8, readings: &[u8]) -> Result<Vec<u8>, Vec<u8>> {
         let mut text = vec![0; TEXT_BYTES];
         // SAFETY: as in `check`.
@@ -231,7 +235,7 @@ fn main() -> ExitCode {
         eprintln!("isolate: the type is a number from 0 to 255, not '{attention_type}'");
         return ExitCode::from(2);
     };
-    let chip = load(chip, lutemarble::FILE_BYTES);
+    let chip = load(chip, lutemarble::REPORT_FILE_BYTES);
     let readings = load(readings, lutemarble::READINGS_BYTES);
     let (text, status) = match lutemarble::report(&chip, attention_type, &readings) {
         Ok(text) => (text, 0),

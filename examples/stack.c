@@ -9,18 +9,24 @@
 
 #include "lutemarble.h"
 
-#define STACK_BYTES (4u << 20)
+#define STACK_BYTES (8u << 20)
 #define PATTERN 0xA5
 
-static uint8_t file[LUTEMARBLE_FILE_BYTES + 1];
+/* Room for the largest inputs of any call and a byte more: the library takes 1,048,576 bytes, 8,192 register instances and
+ * 1,024 node instances, which have 64 bits each. */
+#define MOST_FILE_BYTES 1048577
+#define MOST_INSTANCES 8193
+#define MOST_LIST_BYTES (1024u * 64u * LUTEMARBLE_RECORD_BYTES)
+
+static uint8_t file[MOST_FILE_BYTES];
 static size_t file_bytes;
-static uint8_t readings[LUTEMARBLE_READINGS_BYTES + 1];
+static uint8_t readings[MOST_INSTANCES * LUTEMARBLE_READING_BYTES];
 static size_t readings_bytes;
 static uint8_t type;
-static uint64_t words[LUTEMARBLE_REGISTER_INSTANCES];
-static uint8_t read_bytes[LUTEMARBLE_REGISTER_INSTANCES];
+static uint64_t words[MOST_INSTANCES];
+static uint8_t read_bytes[MOST_INSTANCES];
 static size_t instances;
-static uint8_t list[1u << 17];
+static uint8_t list[MOST_LIST_BYTES];
 static uint8_t text[LUTEMARBLE_TEXT_BYTES];
 static uint64_t out[LUTEMARBLE_CHECK_PLACES];
 
@@ -101,13 +107,12 @@ int main(int argc, char **argv)
     file_bytes = load(argv[1], file, sizeof file);
     readings_bytes = load(argv[2], readings, sizeof readings);
     type = (uint8_t)atoi(argv[3]);
-    instances = readings_bytes / 16;
-    if (instances > LUTEMARBLE_REGISTER_INSTANCES)
-        instances = LUTEMARBLE_REGISTER_INSTANCES;
+    instances = readings_bytes / LUTEMARBLE_READING_BYTES;
     for (i = 0; i < instances; i++) {
-        read_bytes[i] = readings[16 * i + 4];
-        for (k = 8; k < 16; k++)
-            words[i] = words[i] << 8 | readings[16 * i + k];
+        const uint8_t *reading = readings + LUTEMARBLE_READING_BYTES * i;
+        read_bytes[i] = reading[4];
+        for (k = 8; k < LUTEMARBLE_READING_BYTES; k++)
+            words[i] = words[i] << 8 | reading[k];
     }
     own = used(nothing);
     printf("check %zu\n", used(check) - own);

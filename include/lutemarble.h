@@ -23,9 +23,10 @@
  *
  * Stack     A thread whose stack is too small dies (SIGSEGV) at the guard page below it, and where it has none, what lies
  *           below is overwritten. No call tests for it and no proof speaks of it. The constants are what each call needs
- *           at most: measured on the largest inputs (examples/compare measures again), and a quarter or more on top. The
- *           caller's own frames and the thread's own needs, some KB, are not in them. By default a program's first thread
- *           and the threads of glibc have 8 MB, those of Rust's std::thread 2 MB, those of musl 128 KB.
+ *           at most: measured on the largest inputs (examples/compare measures again), and a quarter or more on top. How
+ *           much a call uses goes by the file: a small one needs small tables. The caller's own frames and the thread's
+ *           own needs, some KB, are not in them. By default a program's first thread and the threads of glibc have 8 MB,
+ *           those of Rust's std::thread 2 MB, those of musl 128 KB, which is not enough for the largest files.
  */
 #ifndef LUTEMARBLE_H
 #define LUTEMARBLE_H
@@ -37,18 +38,26 @@
 extern "C" {
 #endif
 
-/* The limits of a chip data file: bytes, register instances, node instances. A longer file is refused. */
-#define LUTEMARBLE_FILE_BYTES 65536
-#define LUTEMARBLE_REGISTER_INSTANCES 1024
-#define LUTEMARBLE_NODE_INSTANCES 256
+/* The limits of a chip data file for check, address and isolate: bytes, register instances, node instances. A longer file
+ * is refused by 1, and one with more instances by 8. */
+#define LUTEMARBLE_FILE_BYTES 1048576
+#define LUTEMARBLE_REGISTER_INSTANCES 8192
+#define LUTEMARBLE_NODE_INSTANCES 1024
 
-/* The bytes of one record of a readings file, and of the longest readings file that can fit. */
+/* Those for report, which are the station's own and lower: it refuses by 1 and 8 there. */
+#define LUTEMARBLE_REPORT_FILE_BYTES 65536
+#define LUTEMARBLE_REPORT_REGISTER_INSTANCES 1024
+#define LUTEMARBLE_REPORT_NODE_INSTANCES 256
+
+/* The bytes of one record of a readings file, and of the longest readings file that can fit: a record for each register
+ * instance of the largest file that report takes. */
 #define LUTEMARBLE_READING_BYTES 16
 #define LUTEMARBLE_READINGS_BYTES 16384
 
-/* The bytes of one record of a list; and those of a list that has room for every answer: 64 bits of each node instance. */
+/* The bytes of one record of a list; and those of a list that has room for every answer: 64 bits of each of 1,024 node
+ * instances. */
 #define LUTEMARBLE_RECORD_BYTES 8
-#define LUTEMARBLE_LIST_BYTES 131072
+#define LUTEMARBLE_LIST_BYTES 524288
 
 /* The bytes of a text that has room for every answer of lutemarble_report. */
 #define LUTEMARBLE_TEXT_BYTES 152000
@@ -58,13 +67,15 @@ extern "C" {
 #define LUTEMARBLE_ADDRESS_PLACES 4
 #define LUTEMARBLE_ISOLATE_PLACES 4
 
-/* The bytes of stack that each call needs: 96 KB, 128 KB, 128 KB and 160 KB. */
-#define LUTEMARBLE_CHECK_STACK 98304
-#define LUTEMARBLE_ADDRESS_STACK 131072
-#define LUTEMARBLE_ISOLATE_STACK 131072
-#define LUTEMARBLE_REPORT_STACK 163840
+/* The bytes of stack that each call needs for the largest files: 640 KB for the first three and 320 KB for report. A file
+ * of at most 256 bytes, with at most 32 register instances and 8 node instances, needs far less: sample B1 of
+ * docs/FORMAT.md some 24 KB in every call. */
+#define LUTEMARBLE_CHECK_STACK 655360
+#define LUTEMARBLE_ADDRESS_STACK 655360
+#define LUTEMARBLE_ISOLATE_STACK 655360
+#define LUTEMARBLE_REPORT_STACK 327680
 
-/* The checker. `out` gets 8 numbers: refusal number, place, and for an accepted file the model/level and the counts of
+/* The checker, by the limits LUTEMARBLE_FILE_BYTES and so on. `out` gets 8 numbers: refusal number, place, and for an accepted file the model/level and the counts of
  * registers, register instances, nodes, node instances and roots (all 0 where it is refused).
  * Returns the refusal number, 0 for an accepted file. */
 uint64_t lutemarble_check(const uint8_t *file, size_t file_bytes, uint64_t *out, size_t out_places);
@@ -87,7 +98,8 @@ uint64_t lutemarble_isolate(const uint8_t *file, size_t file_bytes, uint8_t type
                             uint64_t *out, size_t out_places);
 
 /* The station's text for a file, an attention type and a readings file: a line for each listed bit and one with the step
- * count, or one line with the refusal. A `text` that is too short gets the first part of it, and no byte more than it
+ * count, or one line with the refusal. It has the station's limits (LUTEMARBLE_REPORT_...): a file beyond them is refused
+ * by 1 or 8, also where the other calls accept it. A `text` that is too short gets the first part of it, and no byte more than it
  * has; one of LUTEMARBLE_TEXT_BYTES always suffices. There is no byte 0 at the end.
  * Returns the length of the whole text, whatever room `text` has. */
 size_t lutemarble_report(const uint8_t *file, size_t file_bytes, uint8_t type, const uint8_t *readings,

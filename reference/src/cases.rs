@@ -4,8 +4,10 @@
 
 mod bits;
 mod isolation;
+mod limits;
 
 pub use isolation::Isolation;
+pub use limits::AtALimit;
 
 use crate::hex;
 
@@ -105,7 +107,12 @@ pub fn isolations_of_bits() -> Vec<Isolation> {
     bits::all()
 }
 
-/// The checker cases.
+/// Files at the limits and beyond them, with the station's text too.
+pub fn at_the_limits() -> Vec<AtALimit> {
+    limits::all()
+}
+
+/// The checker cases, those at the limits among them.
 pub fn all() -> Vec<Case> {
     let mut cases = Cases(Vec::new());
     bench_samples(&mut cases);
@@ -114,7 +121,7 @@ pub fn all() -> Vec<Case> {
     zero_counts(&mut cases);
     unknown_values(&mut cases);
     duplicates(&mut cases);
-    limits(&mut cases);
+    cases.at_the_limits();
     expressions(&mut cases);
     children(&mut cases);
     ends(&mut cases);
@@ -136,6 +143,15 @@ impl Cases {
             file,
             verdict: verdict.to_string(),
         });
+    }
+
+    fn at_the_limits(&mut self) {
+        let cases = at_the_limits().into_iter().map(|case| Case {
+            name: case.name,
+            file: case.file,
+            verdict: case.verdict,
+        });
+        self.0.extend(cases);
     }
 
     /// B1 with other registers.
@@ -789,84 +805,6 @@ fn duplicates(cases: &mut Cases) {
         "capture-twice",
         &[NODE, "00 02 01 00", "00 00 01 00", "00 00 01 00", RULE],
         B1_VERDICT,
-    );
-}
-
-/// Four registers of 255 instances and a fifth of `last` instances. The fifth
-/// begins at 5144, its instances at 5150.
-fn many_registers(last: u8) -> String {
-    let mut text = "52 45 47 53 00 00 05".to_string();
-    for (id, count) in [(1, 255), (2, 255), (3, 255), (4, 255), (5, last)] {
-        text += &format!("00 00 0{id} 01 80 {count:02X}");
-        for number in 0..count {
-            text += &format!("{number:02X} 00 00 00 00");
-        }
-    }
-    text
-}
-
-/// Node 1 with 255 instances, node 2 with `last` instances from 2595 on.
-fn many_node_instances(last: u8) -> String {
-    let mut text = TWO_NODES.to_string();
-    for (id, count) in [(1, 255), (2, last)] {
-        text += &format!("00 0{id} 01 {count:02X}");
-        for number in 0..count {
-            text += &format!("{number:02X} 00 01 00");
-            text += RULE;
-        }
-    }
-    text
-}
-
-fn limits(cases: &mut Cases) {
-    cases.registers(
-        "register-instances-1024",
-        &many_registers(4),
-        "accepted 1 5 1024 1 1 1",
-    );
-    cases.registers(
-        "register-instances-1025",
-        &many_registers(5),
-        "refused 8 5170",
-    );
-    cases.registers(
-        "register-instances-1029",
-        &many_registers(9),
-        "refused 8 5170",
-    );
-    let full = many_registers(5);
-    // The last instance's text is "04 00 00 00 00".
-    let without_last = &full[..full.len() - "04 00 00 00 00".len()];
-    cases.add(
-        "register-instance-1025-missing",
-        &[START, without_last],
-        "refused 2 5170",
-    );
-    cases.add(
-        "register-instance-1025-duplicate",
-        &[START, without_last, "00"],
-        "refused 8 5170",
-    );
-    cases.nodes(
-        "node-instances-256",
-        &[&many_node_instances(1)],
-        "accepted 1 1 1 2 256 1",
-    );
-    cases.nodes(
-        "node-instances-257",
-        &[&many_node_instances(2)],
-        "refused 8 2605",
-    );
-    let one_short = many_node_instances(1).replace("00 02 01 01", "00 02 01 02");
-    cases.add(
-        "node-instance-257-missing",
-        &[START, REGISTERS, &one_short],
-        "refused 2 2605",
-    );
-    cases.add(
-        "node-instance-257-duplicate",
-        &[START, REGISTERS, &one_short, "00"],
-        "refused 8 2605",
     );
 }
 
@@ -2063,8 +2001,9 @@ fn accepted_shapes(cases: &mut Cases) {
 
 #[cfg(test)]
 mod tests {
-    use super::all;
-    use crate::checker;
+    use super::{all, at_the_limits};
+    use crate::large::ATTENTION_TYPE;
+    use crate::{checker, report};
     use std::collections::HashSet;
 
     #[test]
@@ -2075,14 +2014,22 @@ mod tests {
     }
 
     #[test]
+    fn the_station_agrees() {
+        for case in at_the_limits() {
+            let text = report(&case.file, ATTENTION_TYPE, &[]);
+            assert_eq!(text, case.text, "{}", case.name);
+        }
+    }
+
+    #[test]
     fn names_differ() {
         let names: HashSet<String> = all().into_iter().map(|case| case.name).collect();
         assert_eq!(names.len(), all().len());
     }
 
     #[test]
-    fn every_number_from_2_to_14_occurs() {
-        for number in 2..=14 {
+    fn every_number_to_14_occurs() {
+        for number in 1..=14 {
             let start = format!("refused {number} ");
             assert!(all().iter().any(|case| case.verdict.starts_with(&start)));
         }

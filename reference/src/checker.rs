@@ -3,19 +3,25 @@
 use std::fmt;
 
 use crate::index::Index;
+use crate::layout::Limits;
 use crate::refusal::{self, Refusal};
 use crate::tree::{RegisterName, Tree};
 use crate::{cycles, layout, references};
 
-/// A file that none of the refusals 1 to 14 meets.
+/// A file that none of the refusals 1 to 14 meets, by some limits.
 pub struct Accepted {
     pub tree: Tree,
     pub index: Index,
 }
 
 impl Accepted {
+    /// By the library's limits.
     pub fn read(file: &[u8]) -> Result<Self, Refusal> {
-        let tree = layout::read(file)?;
+        Self::read_within(file, Limits::LIBRARY)
+    }
+
+    pub fn read_within(file: &[u8], limits: Limits) -> Result<Self, Refusal> {
+        let tree = layout::read_within(file, limits)?;
         let index = Index::new(&tree);
         references::check(&tree, &index)?;
         cycles::check(&tree, &index)?;
@@ -68,7 +74,12 @@ impl fmt::Display for Summary {
 }
 
 pub fn check(file: &[u8]) -> Result<Summary, Refusal> {
-    Ok(Accepted::read(file)?.summary())
+    check_within(file, Limits::LIBRARY)
+}
+
+/// The check by these limits.
+pub fn check_within(file: &[u8], limits: Limits) -> Result<Summary, Refusal> {
+    Ok(Accepted::read_within(file, limits)?.summary())
 }
 
 /// Offset and size of the address of a register instance. An instance that is

@@ -13,11 +13,10 @@ use std::ops::Range;
 use crate::checker::Summary;
 use crate::isolation::RECORD_BYTES;
 use crate::layout::{
-    is_attention_type, CHIP_KEYWORD, EXPRESSION_AND, EXPRESSION_CONSTANT, EXPRESSION_NOT,
+    is_attention_type, Limits, CHIP_KEYWORD, EXPRESSION_AND, EXPRESSION_CONSTANT, EXPRESSION_NOT,
     EXPRESSION_OR, EXPRESSION_REGISTER, EXPRESSION_SHIFT_LEFT, EXPRESSION_SHIFT_RIGHT,
-    FEWEST_OPERANDS, HIGHEST_BIT, MAX_EXPRESSION_LEVEL, MAX_FILE_BYTES, MAX_NODE_INSTANCES,
-    MAX_REGISTER_INSTANCES, NODE_KEYWORD, READABLE, REGISTER_KEYWORD, ROOT_KEYWORD, VERSION,
-    WRITABLE,
+    FEWEST_OPERANDS, HIGHEST_BIT, MAX_EXPRESSION_LEVEL, NODE_KEYWORD, READABLE, REGISTER_KEYWORD,
+    ROOT_KEYWORD, VERSION, WRITABLE,
 };
 use crate::readings::READ;
 use crate::refusal::{self, Refusal};
@@ -25,7 +24,7 @@ use crate::report::LIST_RECORDS;
 
 /// As [`crate::check`].
 pub fn check(file: &[u8]) -> Result<Summary, Refusal> {
-    let chip = Chip::read(file, 0)?;
+    let chip = Chip::read(file, Limits::LIBRARY, 0)?;
     Ok(Summary {
         model: chip.model,
         registers: chip.registers,
@@ -42,7 +41,7 @@ pub fn address(file: &[u8], id: u32, instance: u8) -> Result<(usize, usize), Ref
         0 => u64::from(name(id, instance)),
         _ => NO_NAME,
     };
-    let chip = Chip::read_for(file, 0, sought)?;
+    let chip = Chip::read_for(file, Limits::LIBRARY, 0, sought)?;
     chip.address.ok_or(Refusal::new(refusal::ABSENT, 0))
 }
 
@@ -54,7 +53,7 @@ pub fn isolate(
     read: &[u8],
     list: &mut [u8],
 ) -> Result<(usize, usize), Refusal> {
-    let mut chip = Chip::read(file, attention_type)?;
+    let mut chip = Chip::read(file, Limits::LIBRARY, attention_type)?;
     let root = chip.root()?;
     let instances = chip.register_instances;
     // All of them together are above 1 exactly if one is.
@@ -98,7 +97,7 @@ fn report_to(
     readings_file: &[u8],
     text: &mut Text<'_>,
 ) -> Result<(), Refusal> {
-    let mut chip = Chip::read(file, attention_type)?;
+    let mut chip = Chip::read(file, Limits::PROGRAM, attention_type)?;
     let root = chip.root()?;
     let (words, read) = chip
         .decode(readings_file)
@@ -236,9 +235,11 @@ fn name(id: u32, instance: u8) -> u32 {
 }
 
 /// A refusal in one word, so that it is returned in a register: the number
-/// above 24 bits of place. All places are in files of at most 65,536 bytes.
+/// above 24 bits of place. All places are in files that are not too long.
 #[derive(Clone, Copy)]
 struct Stop(NonZeroU32);
+
+const _: () = assert!(Limits::LIBRARY.bytes < 1 << 24);
 
 impl Stop {
     #[cold]
@@ -258,6 +259,12 @@ impl From<Stop> for Refusal {
     }
 }
 
+/// What names are multiplied by. The lower 24 bits are the golden section, so that
+/// names of IDs in a row are spread, and all of them about the square root of 2
+/// without its 1, so that those of instances in a row are. Names that are made to
+/// collide in another table do not collide here.
+const FACTOR: u32 = 0x6A9E_3779;
+
 /// From names or IDs to numbers that are not 0: open addressing, so large that
 /// about half of the places stay empty. A place has the name above the number;
 /// an empty one is 0.
@@ -268,12 +275,31 @@ struct Names {
 }
 
 impl Names {
+    /// Before it is known how many there may be.
+    const NONE: Names = Names {
+        places: Vec::new(),
+        shift: 0,
+    };
+
     fn with_room(names: usize) -> Self {
         let bits = (2 * names.max(4)).next_power_of_two().trailing_zeros();
         Names {
             places: vec![0; 1 << bits],
-            shift: 32 - bits,
+            shift: u32::BITS - bits,
         }
+    }
+
+    /// Makes room for so many names, and more than before. Returns how many that
+    /// is.
+    #[cold]
+    fn grow(&mut self, names: usize) -> usize {
+        let mut larger = Names::with_room(names.max(self.places.len()));
+        for &place in self.places.iter().filter(|&&place| place != 0) {
+            let (at, _) = larger.view().find((place >> 32) as u32);
+            larger.places[at] = place;
+        }
+        *self = larger;
+        self.places.len() / 2
     }
 
     /// For many lookups in a row: what is the same in all of them need not be
@@ -313,7 +339,7 @@ impl View<'_> {
     #[inline]
     fn find(self, name: u32) -> (usize, u64) {
         let mask = self.places.len() - 1;
-        let mut at = (name.wrapping_mul(0x9E37_79B1) >> self.shift) as usize & mask;
+        let mut at = (name.wrapping_mul(FACTOR) >> self.shift) as usize & mask;
         loop {
             let there = self.places[at];
             if there == 0 || (there >> 32) as u32 == name {
@@ -326,6 +352,16 @@ impl View<'_> {
     #[inline]
     fn get(self, name: u32) -> Option<NonZeroU32> {
         NonZeroU32::new(self.find(name).1 as u32)
+    }
+
+    /// Why a register instance that does not fit is refused where it is named.
+    #[cold]
+    fn fault_of(self, name: u32, at: usize) -> Stop {
+        let number = match self.get(name) {
+            Some(_) => refusal::UNFIT_REGISTER,
+            None => refusal::ABSENT,
+        };
+        Stop::new(number, at)
     }
 
     /// The kind that goes with an instance's name, and 0 if it is not there.
@@ -349,11 +385,6 @@ fn numbered(position: usize, kind: u8) -> NonZeroU32 {
 #[inline]
 fn position_of(number: NonZeroU32) -> usize {
     (number.get() >> 2) as usize - 1
-}
-
-#[inline]
-fn kind_of(number: NonZeroU32) -> u8 {
-    number.get() as u8 & KIND
 }
 
 /// The IDs so far. One above or below them all is new; they are put into a
@@ -555,6 +586,7 @@ struct NodeInstance {
 
 struct Chip<'a> {
     file: &'a [u8],
+    limits: Limits,
     wanted: u8,
     model: u32,
     registers: usize,
@@ -591,30 +623,28 @@ const NODE_BYTES: usize = 14;
 impl<'a> Chip<'a> {
     /// What is to be known of a file that is accepted. Of the rules only those
     /// for the wanted attention type are remembered.
-    fn read(file: &'a [u8], wanted: u8) -> Result<Self, Refusal> {
-        Self::read_for(file, wanted, NO_NAME)
+    fn read(file: &'a [u8], limits: Limits, wanted: u8) -> Result<Self, Refusal> {
+        Self::read_for(file, limits, wanted, NO_NAME)
     }
 
     /// The same, with the address of the register instance that is sought.
-    fn read_for(file: &'a [u8], wanted: u8, sought: u64) -> Result<Self, Refusal> {
-        if file.len() > MAX_FILE_BYTES {
+    fn read_for(file: &'a [u8], limits: Limits, wanted: u8, sought: u64) -> Result<Self, Refusal> {
+        if file.len() > limits.bytes {
             return Err(Refusal::new(refusal::FILE_TOO_LONG, 0));
         }
-        let instances = file.len() / REGISTER_INSTANCE_BYTES + 1;
-        let node_instances = file.len() / NODE_INSTANCE_BYTES + 1;
-        let node_instances = node_instances.min(MAX_NODE_INSTANCES);
         let mut chip = Chip {
             file,
+            limits,
             wanted,
             model: 0,
             registers: 0,
             register_instances: 0,
-            register_names: Names::with_room(instances.min(MAX_REGISTER_INSTANCES)),
+            register_names: Names::NONE,
             sought,
             address: None,
             nodes: 0,
-            node_instances: Vec::with_capacity(node_instances),
-            node_names: Names::with_room(node_instances),
+            node_instances: Vec::new(),
+            node_names: Names::NONE,
             children: Vec::new(),
             roots: 0,
             root: None,
@@ -660,7 +690,12 @@ impl<'a> Chip<'a> {
         if count == 0 {
             return reader.refuse(refusal::ZERO_COUNT, 3);
         }
-        let most = (self.file.len() / REGISTER_BYTES + 1).min(MAX_REGISTER_INSTANCES + 1);
+        // So many registers and register instances are read at most.
+        let most = count.min(self.file.len() / REGISTER_BYTES + 1);
+        let most = most.min(self.limits.register_instances + 1);
+        let most_instances = self.file.len() / REGISTER_INSTANCE_BYTES + 1;
+        let most_instances = most_instances.min(self.limits.register_instances);
+        let mut room = 0;
         let mut ids = Ids::new();
         for _ in 0..count {
             let id = reader.register_id()?;
@@ -678,6 +713,12 @@ impl<'a> Chip<'a> {
                 0
             };
             let instances = usize::from(reader.nonzero_byte()?);
+            let in_all = self.register_instances + instances;
+            if in_all > room {
+                // The other registers may have as many instances as the first.
+                let likely = if room == 0 { count * instances } else { in_all };
+                room = self.register_names.grow(likely.min(most_instances));
+            }
             if register_type == 1 {
                 self.read_register_instances::<5>(&mut reader, id, kind, instances)?;
             } else {
@@ -729,7 +770,7 @@ impl<'a> Chip<'a> {
         numbers: &mut ByteSet,
     ) -> Result<(), u8> {
         let position = self.register_instances;
-        if position == MAX_REGISTER_INSTANCES {
+        if position == self.limits.register_instances {
             return Err(refusal::TOO_MANY_INSTANCES);
         }
         if !numbers.insert(number) {
@@ -769,7 +810,11 @@ impl<'a> Chip<'a> {
         if count == 0 {
             return reader.refuse(refusal::ZERO_COUNT, 2);
         }
-        let most = (self.file.len() / NODE_BYTES + 1).min(MAX_NODE_INSTANCES + 1);
+        let most = count.min(self.file.len() / NODE_BYTES + 1);
+        let most = most.min(self.limits.node_instances + 1);
+        let most_instances = self.file.len() / NODE_INSTANCE_BYTES + 1;
+        let most_instances = most_instances.min(self.limits.node_instances);
+        let mut room = 0;
         let mut ids = Ids::new();
         for _ in 0..count {
             let id = reader.node_id()?;
@@ -779,7 +824,17 @@ impl<'a> Chip<'a> {
             }
             let register_type = reader.register_type()?;
             let mut numbers = ByteSet::default();
-            for _ in 0..reader.nonzero_byte()? {
+            let instances = reader.nonzero_byte()?;
+            let in_all = self.node_instances.len() + usize::from(instances);
+            if in_all > room {
+                let first = count * usize::from(instances);
+                let likely = if room == 0 { first } else { in_all };
+                let likely = likely.min(most_instances);
+                room = self.node_names.grow(likely);
+                let before = self.node_instances.len();
+                self.node_instances.reserve(likely.saturating_sub(before));
+            }
+            for _ in 0..instances {
                 self.read_node_instance(reader, id, register_type, &mut numbers)?;
             }
         }
@@ -797,7 +852,7 @@ impl<'a> Chip<'a> {
         let at = reader.at as u32;
         let number = reader.byte()?;
         let position = self.node_instances.len();
-        if position == MAX_NODE_INSTANCES {
+        if position == self.limits.node_instances {
             return reader.refuse(refusal::TOO_MANY_INSTANCES, 1);
         }
         if !numbers.insert(number) {
@@ -848,11 +903,8 @@ impl<'a> Chip<'a> {
             let names = self.register_names.view();
             let is_fault = |bytes: &[u8; 4]| names.kind(u32::from_be_bytes(*bytes)) == 0;
             if let Some(index) = whole.iter().position(is_fault) {
-                let number = match names.get(u32::from_be_bytes(whole[index])) {
-                    Some(_) => refusal::UNFIT_REGISTER,
-                    None => refusal::ABSENT,
-                };
-                self.fault = Some(Stop::new(number, at + 4 * index));
+                let name = u32::from_be_bytes(whole[index]);
+                self.fault = Some(names.fault_of(name, at + 4 * index));
             }
         }
         if whole.len() < count {
@@ -863,68 +915,61 @@ impl<'a> Chip<'a> {
         Ok(())
     }
 
-    /// Without recursion: `open` has, for each expression around the one to
-    /// read, how many of its operands are still to be read.
+    /// Without recursion: `open` has, for the expressions around the one to read
+    /// that have operands behind it, how many these are, and their level.
     fn read_expression(
         &mut self,
         mut reader: Reader<'a>,
         register_type: u8,
     ) -> Result<Reader<'a>, Stop> {
-        let mut open = [0u8; MAX_EXPRESSION_LEVEL];
-        let mut around = 0;
+        let names = self.register_names.view();
+        let mut open = [(0u8, 0u8); MAX_EXPRESSION_LEVEL];
+        let mut opened = 0;
+        let mut level = 1;
         loop {
             let at = reader.at;
             let kind = reader.byte()?;
-            if around == MAX_EXPRESSION_LEVEL {
+            if usize::from(level) > MAX_EXPRESSION_LEVEL {
                 return reader.refuse(refusal::BAD_EXPRESSION, 1);
             }
-            let operands = match kind {
+            match kind {
                 EXPRESSION_REGISTER => {
                     let name = reader.register_name()?;
-                    self.named_by_a_rule(name, register_type, at);
-                    0
+                    if names.kind(name) != register_type && self.fault.is_none() {
+                        self.fault = Some(names.fault_of(name, at));
+                    }
                 }
                 EXPRESSION_CONSTANT => {
                     reader.bytes::<8>()?;
-                    0
                 }
-                EXPRESSION_AND | EXPRESSION_OR => reader.at_least(FEWEST_OPERANDS)?,
-                EXPRESSION_NOT => 1,
+                EXPRESSION_AND | EXPRESSION_OR => {
+                    let operands = reader.at_least(FEWEST_OPERANDS)?;
+                    level += 1;
+                    open[opened] = (operands - 1, level);
+                    opened += 1;
+                    continue;
+                }
+                EXPRESSION_NOT => {
+                    level += 1;
+                    continue;
+                }
                 EXPRESSION_SHIFT_LEFT | EXPRESSION_SHIFT_RIGHT => {
                     reader.at_least(1)?;
-                    1
+                    level += 1;
+                    continue;
                 }
                 _ => return reader.refuse(refusal::UNKNOWN_VALUE, 1),
-            };
-            if operands > 0 {
-                open[around] = operands;
-                around += 1;
-                continue;
             }
-            // It is done, and with it those whose last operand it was.
-            loop {
-                if around == 0 {
-                    return Ok(reader);
-                }
-                open[around - 1] -= 1;
-                if open[around - 1] > 0 {
-                    break;
-                }
-                around -= 1;
+            // It is done, and the next operand of the innermost open one follows.
+            if opened == 0 {
+                return Ok(reader);
             }
-        }
-    }
-
-    #[inline]
-    fn named_by_a_rule(&mut self, name: u32, register_type: u8, at: usize) {
-        let named = self.register_names.get(name);
-        let fits = named.is_some_and(|named| kind_of(named) == register_type);
-        if !fits && self.fault.is_none() {
-            let number = match named {
-                Some(_) => refusal::UNFIT_REGISTER,
-                None => refusal::ABSENT,
-            };
-            self.fault = Some(Stop::new(number, at));
+            let (left, its_level) = &mut open[opened - 1];
+            level = *its_level;
+            *left -= 1;
+            if *left == 0 {
+                opened -= 1;
+            }
         }
     }
 
@@ -1057,9 +1102,26 @@ impl<'a> Chip<'a> {
         words: &[u64],
         read: &[u8],
     ) -> Result<(usize, usize), Refusal> {
+        // The tables of a small file are small, since clearing them takes longer
+        // than all else there.
+        if self.node_instances.len() <= FEW_NODE_INSTANCES {
+            self.walk_from::<FEW_NODE_INSTANCES>(root, words, read)
+        } else {
+            self.walk_from::<{ Limits::LIBRARY.node_instances }>(root, words, read)
+        }
+    }
+
+    /// With tables for N node instances.
+    #[inline(never)]
+    fn walk_from<const N: usize>(
+        &mut self,
+        root: usize,
+        words: &[u64],
+        read: &[u8],
+    ) -> Result<(usize, usize), Refusal> {
         let mut walk = Walk {
-            seen: [Seen::Not; MAX_NODE_INSTANCES],
-            waiting: [0; MAX_NODE_INSTANCES],
+            seen: [Seen::Not; N],
+            waiting: [0; N],
             left: 0,
             first_unread: None,
             records: 0,
@@ -1079,7 +1141,7 @@ impl<'a> Chip<'a> {
             for (&child, &[bit, ..]) in children.iter().zip(entries) {
                 let followed = active & mask_of(bit);
                 // It is below that; to say so spares the checks of the bounds.
-                let child = usize::from(child) % MAX_NODE_INSTANCES;
+                let child = usize::from(child) % N;
                 if walk.seen[child] == Seen::Not && followed != 0 {
                     let value = self.value_of(child, words, read);
                     walk.reach(child, &mut self.node_instances[child], value);
@@ -1179,13 +1241,16 @@ enum Seen {
     Showing,
 }
 
-/// How far isolation is.
-struct Walk {
+/// Files with so many node instances are small.
+const FEW_NODE_INSTANCES: usize = 32;
+
+/// How far isolation is in a file of at most N node instances.
+struct Walk<const N: usize> {
     /// By the instances' positions.
-    seen: [Seen; MAX_NODE_INSTANCES],
+    seen: [Seen; N],
     /// The first `left` are reached instances with active bits that have a
     /// child, and their children are still to be looked at.
-    waiting: [u16; MAX_NODE_INSTANCES],
+    waiting: [u16; N],
     left: usize,
     /// The position of an instance and the place in its rule.
     first_unread: Option<(usize, usize)>,
@@ -1193,7 +1258,7 @@ struct Walk {
     steps: usize,
 }
 
-impl Walk {
+impl<const N: usize> Walk<N> {
     /// An instance is reached, and this is the value of its rule. All its
     /// active bits are to list, but for those of a waiting instance whose child
     /// turns out to show something.
@@ -1267,7 +1332,7 @@ struct Cycles<'a> {
     chip: &'a Chip<'a>,
     /// 0 before an instance is entered, then its turn, and [`CLOSED`] when all
     /// that lead to it and are led to by it are found.
-    turns: [u16; MAX_NODE_INSTANCES],
+    turns: Vec<u16>,
     entered: u16,
     /// The instances that are entered and not closed, by turn.
     open: Vec<u16>,
@@ -1282,7 +1347,7 @@ impl<'a> Cycles<'a> {
         let count = chip.node_instances.len();
         let mut search = Cycles {
             chip,
-            turns: [0; MAX_NODE_INSTANCES],
+            turns: vec![0; count],
             entered: 0,
             open: Vec::with_capacity(count),
             first: None,

@@ -13,16 +13,18 @@ mod places;
 mod random;
 mod silent;
 
-pub use aimed::{aimed_case, full_list_case, large_case, Sizes, HIGHEST_NUMBER};
-pub use colliding::{case_of, colliding_case, colliding_file, crowds, name_like};
+pub use aimed::{aimed_case, full_list_case, large_case, too_large_case, Sizes, HIGHEST_NUMBER};
+pub use colliding::{
+    case_of, colliding_case, colliding_file, crowds, crowds_of_the_largest, name_like,
+};
 pub use damage::damaged_file;
 pub use draft::{valid_file, Field, FieldKind, FieldMap, Shape};
 pub use misfit::{Misfit, MISFITS};
-pub use places::{Crowd, Places};
+pub use places::{Crowd, Places, CLASSES};
 pub use random::Random;
 
 use crate::isolation;
-use crate::layout::{self, MAX_FILE_BYTES};
+use crate::layout::{self, Limits};
 use crate::readings::{self, READ, UNREAD};
 
 /// All that one isolation call is lent. The list has `room` bytes.
@@ -64,7 +66,8 @@ pub fn case(random: &mut Random) -> Case {
 }
 
 fn too_long(random: &mut Random, mut file: Vec<u8>) -> Vec<u8> {
-    file.resize(MAX_FILE_BYTES + 1 + random.below(64), 0);
+    let limits = *random.pick(&[Limits::PROGRAM, Limits::LIBRARY]);
+    file.resize(limits.bytes + 1 + random.below(64), 0);
     file
 }
 

@@ -3,7 +3,7 @@
 
 use crate::checker::Accepted;
 use crate::expression::{bit_is_set, Unread};
-use crate::layout::{is_attention_type, HIGHEST_BIT};
+use crate::layout::{is_attention_type, Limits, HIGHEST_BIT};
 use crate::readings::{self, Readings};
 use crate::refusal::{self, Refusal};
 use crate::tree::{Child, NodeInstance, NodeName};
@@ -23,7 +23,19 @@ pub fn isolate(
     read: &[u8],
     list: &mut [u8],
 ) -> Result<(usize, usize), Refusal> {
-    let accepted = Accepted::read(file)?;
+    isolate_within(file, Limits::LIBRARY, attention_type, words, read, list)
+}
+
+/// The same by these limits.
+pub fn isolate_within(
+    file: &[u8],
+    limits: Limits,
+    attention_type: u8,
+    words: &[u64],
+    read: &[u8],
+    list: &mut [u8],
+) -> Result<(usize, usize), Refusal> {
+    let accepted = Accepted::read_within(file, limits)?;
     let root = accepted.root(attention_type)?;
     let readings = Readings::fit(&accepted.tree, words, read)?;
     accepted.isolate_from(root, attention_type, readings, list)
@@ -32,11 +44,12 @@ pub fn isolate(
 /// The same, with the readings taken from a readings file.
 pub fn isolate_with_readings_file(
     file: &[u8],
+    limits: Limits,
     attention_type: u8,
     readings_file: &[u8],
     list: &mut [u8],
 ) -> Result<(usize, usize), Refusal> {
-    let accepted = Accepted::read(file)?;
+    let accepted = Accepted::read_within(file, limits)?;
     let root = accepted.root(attention_type)?;
     let (words, read) = readings::decode(&accepted.tree, readings_file)?;
     let readings = Readings::fit(&accepted.tree, &words, &read)?;

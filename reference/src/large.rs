@@ -5,9 +5,8 @@ use std::ops::Range;
 
 use crate::generate::{Places, Random};
 use crate::layout::{
-    EXPRESSION_AND, EXPRESSION_NOT, EXPRESSION_OR, EXPRESSION_REGISTER, EXPRESSION_SHIFT_LEFT,
-    EXPRESSION_SHIFT_RIGHT, MAX_EXPRESSION_LEVEL, MAX_FILE_BYTES, MAX_NODE_INSTANCES,
-    MAX_REGISTER_INSTANCES, READABLE, WRITABLE,
+    Limits, EXPRESSION_AND, EXPRESSION_NOT, EXPRESSION_OR, EXPRESSION_REGISTER,
+    EXPRESSION_SHIFT_LEFT, EXPRESSION_SHIFT_RIGHT, MAX_EXPRESSION_LEVEL, READABLE, WRITABLE,
 };
 
 /// Sample B1.
@@ -172,34 +171,52 @@ pub fn register_instances(instances: usize, in_a_register: usize) -> Vec<u8> {
     Nodes::plain(1, |_| last).write(start(instances, in_a_register))
 }
 
-/// So many node instances, each with its own register as its rule where there
-/// are enough.
+/// So many node instances, each with its own register as its rule.
 pub fn node_instances(instances: usize) -> Vec<u8> {
-    let registers = instances.min(MAX_REGISTER_INSTANCES);
-    Nodes::plain(instances, |position| register_name(position % registers, 1))
-        .write(start(registers, 1))
+    Nodes::plain(instances, |position| register_name(position, 1)).write(start(instances, 1))
 }
 
-/// A file of 65,536 bytes and `more`, with as many captures as it holds, of
-/// 1,024 register instances in turn.
-pub fn captures(more: usize) -> Vec<u8> {
-    let file = start(MAX_REGISTER_INSTANCES, 128);
+/// So many node instances in nodes of at most `in_a_node` instances, IDs from 1
+/// up and instances from 0 up. The one register is the rule of them all.
+pub fn short_node_instances(instances: usize, in_a_node: usize) -> Vec<u8> {
+    let mut file = start(1, 1);
+    file.extend(b"NODE");
+    file.extend((instances.div_ceil(in_a_node) as u16).to_be_bytes());
+    for position in 0..instances {
+        let (node, number) = (position / in_a_node, position % in_a_node);
+        if number == 0 {
+            file.extend((node as u16 + 1).to_be_bytes());
+            file.extend([1, in_a_node.min(instances - position) as u8]);
+        }
+        file.extend([number as u8, 0, 1, 0, ATTENTION_TYPE, EXPRESSION_REGISTER]);
+        file.extend(register_name(0, 1));
+    }
+    file.extend(ROOTS);
+    file
+}
+
+/// A file of as many bytes as there may be and `more`, with as many captures as
+/// it holds, of as many register instances as there may be in turn.
+pub fn captures(limits: Limits, more: usize) -> Vec<u8> {
+    let file = start(limits.register_instances, 128);
     let name = |position| register_name(position, 128);
-    full_of_captures(file, MAX_REGISTER_INSTANCES, name, MAX_FILE_BYTES + more)
+    full_of_captures(file, limits, limits.register_instances, name, more)
 }
 
-/// A file of so many bytes that begins with these registers, with as many
-/// captures as it holds, of the first `captured` register instances in turn.
+/// A file of as many bytes as there may be and `more` that begins with these
+/// registers, with as many captures as it holds, of the first `captured` register
+/// instances in turn.
 fn full_of_captures(
     file: Vec<u8>,
+    limits: Limits,
     captured: usize,
     name: impl Fn(usize) -> [u8; 4],
-    bytes: usize,
+    more: usize,
 ) -> Vec<u8> {
-    let mut nodes = Nodes::plain(MAX_NODE_INSTANCES, &name);
-    let room = bytes - file.len() - 6 - ROOTS.len() - nodes.bytes();
+    let mut nodes = Nodes::plain(limits.node_instances, &name);
+    let room = limits.bytes + more - file.len() - 6 - ROOTS.len() - nodes.bytes();
     for capture in 0..room / 4 {
-        nodes.instances[capture % MAX_NODE_INSTANCES]
+        nodes.instances[capture % limits.node_instances]
             .captures
             .push(name(capture * 7 % captured));
     }
@@ -209,16 +226,17 @@ fn full_of_captures(
     nodes.write(file)
 }
 
-/// A file of at most 65,536 bytes whose rules are as long as it holds and go
-/// down to the highest level, in all operations.
-pub fn deep_expressions() -> Vec<u8> {
-    let file = start(MAX_REGISTER_INSTANCES, 128);
-    let mut nodes = Nodes::plain(MAX_NODE_INSTANCES, |position| register_name(position, 128));
-    let mut left = MAX_FILE_BYTES - file.len() - 6 - ROOTS.len() - nodes.bytes();
+/// A file that is not too long, whose rules are as long as it holds and go down
+/// to the highest level, in all operations.
+pub fn deep_expressions(limits: Limits) -> Vec<u8> {
+    let file = start(limits.register_instances, 128);
+    let name = |position| register_name(position, 128);
+    let mut nodes = Nodes::plain(limits.node_instances, name);
+    let mut left = limits.bytes - file.len() - 6 - ROOTS.len() - nodes.bytes();
     for (position, instance) in nodes.instances.iter_mut().enumerate() {
         let rule = &mut instance.rule;
         let before = rule.len();
-        let share = left / (MAX_NODE_INSTANCES - position);
+        let share = left / (limits.node_instances - position);
         *rule = deep_rule(position, share + before);
         left -= rule.len() - before;
     }
@@ -265,30 +283,44 @@ fn graph_from(first_bit: u8, children: &[Vec<usize>], root: usize) -> Vec<u8> {
     nodes.write_with(&ids, root, start(children.len(), 1))
 }
 
-/// 256 node instances, each but the last with `children` children at its first
-/// bits, all of them earlier in the file where `backward`; the root is then the
-/// last. Each has a register of its own. The next instance is among the
+/// So many node instances, each but the last with `children` children at its
+/// first bits, all of them earlier in the file where `backward`; the root is then
+/// the last. Each has a register of its own. The next instance is among the
 /// children, so a chain may reach them all.
-pub fn children(children: usize, backward: bool) -> Vec<u8> {
-    let last = MAX_NODE_INSTANCES - 1;
+pub fn children(instances: usize, children: usize, backward: bool) -> Vec<u8> {
     let places: Vec<usize> = match backward {
-        false => (0..=last).collect(),
-        true => (0..=last).rev().collect(),
+        false => (0..instances).collect(),
+        true => (0..instances).rev().collect(),
     };
     graph(&row(children, &places), places[0])
 }
 
+/// As [`children`] with one child each, and one register for all of them.
+pub fn row_of_one_register(instances: usize, backward: bool) -> Vec<u8> {
+    let mut nodes = Nodes::plain(instances, |_| register_name(0, 1));
+    let last = instances - 1;
+    for (position, instance) in nodes.instances.iter_mut().enumerate() {
+        instance.children = match backward {
+            false if position < last => vec![(0, position + 1)],
+            true if position > 0 => vec![(0, position - 1)],
+            _ => Vec::new(),
+        };
+    }
+    let root = if backward { last } else { 0 };
+    nodes.write_with(&Order::Rising.ids(instances), root, start(1, 1))
+}
+
 /// As [`children`] forward with one child each, at this bit.
-pub fn row_at(bit: u8) -> Vec<u8> {
-    let places: Vec<usize> = (0..MAX_NODE_INSTANCES).collect();
+pub fn row_at(instances: usize, bit: u8) -> Vec<u8> {
+    let places: Vec<usize> = (0..instances).collect();
     graph_from(bit, &row(1, &places), 0)
 }
 
 /// Readings for [`children`] forward: every fourth instance has all bits, the
 /// first one of them the root's, and the others show nothing.
-pub fn every_fourth() -> Vec<u64> {
+pub fn every_fourth(instances: usize) -> Vec<u64> {
     let word = |position| if position % 4 == 0 { u64::MAX } else { 0 };
-    (0..MAX_NODE_INSTANCES).map(word).collect()
+    (0..instances).map(word).collect()
 }
 
 /// The children of each place: the `children` places that follow it in the
@@ -303,26 +335,26 @@ fn row(children: usize, places: &[usize]) -> Vec<Vec<usize>> {
 }
 
 /// As [`children`], with parents before and behind their children.
-pub fn mixed_children(children: usize) -> Vec<u8> {
-    let places = Order::Shuffled.ids(MAX_NODE_INSTANCES);
+pub fn mixed_children(instances: usize, children: usize) -> Vec<u8> {
+    let places = Order::Shuffled.ids(instances);
     let places: Vec<usize> = places.iter().map(|&place| place as usize - 1).collect();
     graph(&row(children, &places), places[0])
 }
 
-/// As many children forward as the file holds, and the last instance has the
-/// one before it as a child: they are the only ones on a cycle.
-pub fn late_cycle() -> Vec<u8> {
-    let last = MAX_NODE_INSTANCES - 1;
+/// [`MOST_CHILDREN`] children forward each, and the last instance has the one
+/// before it as a child: they are the only ones on a cycle.
+pub fn late_cycle(instances: usize) -> Vec<u8> {
+    let last = instances - 1;
     let places: Vec<usize> = (0..=last).collect();
     let mut children = row(MOST_CHILDREN, &places);
     children[last].push(last - 1);
     graph(&children, 0)
 }
 
-/// 1,024 registers of one instance, their IDs in this order; the one rule names
+/// So many registers of one instance, their IDs in this order; the one rule names
 /// the last of them.
-pub fn registers_in(order: Order) -> Vec<u8> {
-    registers_with(&order.ids(MAX_REGISTER_INSTANCES))
+pub fn registers_in(order: Order, registers: usize) -> Vec<u8> {
+    registers_with(&order.ids(registers))
 }
 
 /// Registers of one instance with these IDs; the one rule names the last of
@@ -332,9 +364,9 @@ fn registers_with(ids: &[u32]) -> Vec<u8> {
     Nodes::plain(1, |_| last).write(start_with(ids, ids.len(), 1))
 }
 
-/// 256 nodes of one instance, and as many registers, their IDs in this order.
-pub fn nodes_in(order: Order) -> Vec<u8> {
-    nodes_with(&order.ids(MAX_NODE_INSTANCES))
+/// So many nodes of one instance, and as many registers, their IDs in this order.
+pub fn nodes_in(order: Order, nodes: usize) -> Vec<u8> {
+    nodes_with(&order.ids(nodes))
 }
 
 /// Nodes of one instance, and as many registers, with these IDs.
@@ -345,9 +377,9 @@ fn nodes_with(ids: &[u32]) -> Vec<u8> {
 }
 
 /// [`registers_in`] whose last register has the ID of the one before it.
-pub fn late_duplicate(order: Order) -> Vec<u8> {
-    let mut file = registers_in(order);
-    let last = file_position_of_register(MAX_REGISTER_INSTANCES - 1);
+pub fn late_duplicate(order: Order, registers: usize) -> Vec<u8> {
+    let mut file = registers_in(order, registers);
+    let last = file_position_of_register(registers - 1);
     file.copy_within(last - 11..last - 8, last);
     file
 }
@@ -357,12 +389,13 @@ fn file_position_of_register(position: usize) -> usize {
     20 + 11 * position
 }
 
-/// As many children forward as the file holds, and the last of them is absent.
-pub fn late_absent_child() -> Vec<u8> {
-    let mut file = children(MOST_CHILDREN, false);
+/// [`MOST_CHILDREN`] children forward each, and the last of them is absent.
+pub fn late_absent_child(instances: usize) -> Vec<u8> {
+    let mut file = children(instances, MOST_CHILDREN, false);
     // Behind the child entry: the last node of 14 bytes, and the root.
     let behind = file.len() - ROOTS.len() - 14;
-    file[behind - 3..behind].copy_from_slice(&[1, 1, 0]);
+    let [high, low] = (instances as u16 + 1).to_be_bytes();
+    file[behind - 3..behind].copy_from_slice(&[high, low, 0]);
     file
 }
 
@@ -371,16 +404,50 @@ pub fn late_absent_child() -> Vec<u8> {
 pub enum Crowding {
     /// Those of the IDs from 1 up, which are spread.
     None,
-    /// 64 at each of some places that are far from each other.
+    /// 64 at each of some places that are far from each other, or 16 where IDs
+    /// have not enough bits for that.
     By64,
-    /// All at the last four.
+    /// All at the last four, or at a few more where that needs more bits.
     AtTheEnd,
 }
 
+/// What is crowded: registers or nodes.
+#[derive(Clone, Copy)]
+struct Crowded {
+    places: Places,
+    count: usize,
+    /// The number of IDs that there are.
+    ids: usize,
+}
+
+impl Crowded {
+    /// As many registers as there may be.
+    fn registers(limits: Limits) -> Self {
+        Crowded {
+            places: Places::of(limits.register_instances),
+            count: limits.register_instances,
+            ids: 1 << 24,
+        }
+    }
+
+    /// As many nodes as there may be.
+    fn nodes(limits: Limits) -> Self {
+        Crowded {
+            places: Places::of(limits.node_instances),
+            count: limits.node_instances,
+            ids: 1 << 16,
+        }
+    }
+}
+
 impl Crowding {
-    /// So many IDs that rise, by the numbers that are searched for.
-    fn ids(self, count: usize, places: Places, number: impl Fn(u64) -> u64) -> Vec<u32> {
+    /// IDs that rise, by the numbers that are searched for.
+    fn ids(self, crowded: Crowded, number: impl Fn(u64) -> u64) -> Vec<u32> {
+        let Crowded { places, count, ids } = crowded;
         let starts = places.starts();
+        // Twice as many IDs as are taken.
+        let alike = (ids / starts / 2).min(64);
+        let at_the_end = (2 * count * starts / ids).max(4);
         let at = |wanted: Range<usize>, count: usize| -> Vec<u32> {
             let is_there = |id: &u32| wanted.contains(&places.start(number((*id).into())));
             (1..).filter(is_there).take(count).collect()
@@ -388,97 +455,99 @@ impl Crowding {
         let mut ids: Vec<u32> = match self {
             Crowding::None => (1..=count as u32).collect(),
             Crowding::By64 => {
-                let groups = count / 64;
+                let groups = count / alike;
                 let start = |group| group * starts / groups;
-                let group = |group| at(start(group)..start(group) + 1, 64);
+                let group = |group| at(start(group)..start(group) + 1, alike);
                 (0..groups).flat_map(group).collect()
             }
-            Crowding::AtTheEnd => at(starts - 4..starts, count),
+            Crowding::AtTheEnd => at(starts - at_the_end..starts, count),
         };
         ids.sort();
         ids
     }
 
-    /// IDs of 1,024 registers whose instances 0 are crowded by their names.
-    fn register_names(self) -> Vec<u32> {
-        self.ids(MAX_REGISTER_INSTANCES, Places::OF_REGISTERS, |id| id << 8)
+    /// IDs of as many registers as there may be, whose instances 0 are crowded by
+    /// their names.
+    fn register_names(self, limits: Limits) -> Vec<u32> {
+        self.ids(Crowded::registers(limits), |id| id << 8)
     }
 
-    /// The same of 256 nodes.
-    fn node_names(self) -> Vec<u32> {
-        self.ids(MAX_NODE_INSTANCES, Places::OF_NODES, |id| id << 8)
+    /// The same of nodes.
+    fn node_names(self, limits: Limits) -> Vec<u32> {
+        self.ids(Crowded::nodes(limits), |id| id << 8)
     }
 }
 
-/// 1,024 registers of one instance, their IDs falling and crowded.
-pub fn crowded_registers(crowding: Crowding) -> Vec<u8> {
-    let mut ids = crowding.ids(MAX_REGISTER_INSTANCES, Places::OF_REGISTERS, |id| id);
+/// As many registers as there may be, of one instance each, their IDs falling and
+/// crowded.
+pub fn crowded_registers(limits: Limits, crowding: Crowding) -> Vec<u8> {
+    let mut ids = crowding.ids(Crowded::registers(limits), |id| id);
     ids.reverse();
     registers_with(&ids)
 }
 
-/// 256 nodes of one instance, and as many registers, their IDs falling and
-/// crowded as those of nodes.
-pub fn crowded_nodes(crowding: Crowding) -> Vec<u8> {
-    let mut ids = crowding.ids(MAX_NODE_INSTANCES, Places::OF_NODES, |id| id);
+/// As many nodes as there may be, of one instance each, and as many registers,
+/// their IDs falling and crowded as those of nodes.
+pub fn crowded_nodes(limits: Limits, crowding: Crowding) -> Vec<u8> {
+    let mut ids = crowding.ids(Crowded::nodes(limits), |id| id);
     ids.reverse();
     nodes_with(&ids)
 }
 
-/// A file of 65,536 bytes, with as many captures as it holds, of 1,024 registers
-/// of one instance in turn, whose names are crowded.
-pub fn crowded_captures(crowding: Crowding) -> Vec<u8> {
-    let ids = crowding.register_names();
+/// A file of as many bytes as there may be, with as many captures as it holds, of
+/// as many registers as there may be, with one instance each, in turn. Their names
+/// are crowded.
+pub fn crowded_captures(limits: Limits, crowding: Crowding) -> Vec<u8> {
+    let ids = crowding.register_names(limits);
     let file = start_with(&ids, ids.len(), 1);
-    full_of_captures(
-        file,
-        ids.len(),
-        |position| name_of(ids[position]),
-        MAX_FILE_BYTES,
-    )
+    let name = |position: usize| name_of(ids[position]);
+    full_of_captures(file, limits, ids.len(), name, 0)
 }
 
 /// [`crowded_captures`] whose last capture is of a register that is absent. The
 /// search for its name starts where that for the last register's does.
-pub fn late_crowded_absence(crowding: Crowding) -> Vec<u8> {
-    let ids = crowding.register_names();
-    let start = |id: u32| Places::OF_REGISTERS.start(u64::from(id) << 8);
+pub fn late_crowded_absence(limits: Limits, crowding: Crowding) -> Vec<u8> {
+    let ids = crowding.register_names(limits);
+    let places = Crowded::registers(limits).places;
+    let start = |id: u32| places.start(u64::from(id) << 8);
     let last = ids[ids.len() - 1];
     let absent = (last + 1..).find(|&id| start(id) == start(last));
-    let mut file = crowded_captures(crowding);
+    let mut file = crowded_captures(limits, crowding);
     capture_last(&mut file, name_of(absent.expect("there are more")));
     file
 }
 
-/// As [`children`] forward with [`MOST_CHILDREN`], of 256 nodes whose instances'
-/// names are crowded.
-pub fn crowded_children(crowding: Crowding) -> Vec<u8> {
-    let places: Vec<usize> = (0..MAX_NODE_INSTANCES).collect();
+/// As [`children`] forward with [`MOST_CHILDREN`], of as many nodes as there may
+/// be, whose instances' names are crowded.
+pub fn crowded_children(limits: Limits, crowding: Crowding) -> Vec<u8> {
+    let places: Vec<usize> = (0..limits.node_instances).collect();
     let mut nodes = Nodes::plain(places.len(), |position| register_name(position, 1));
     for (instance, children) in nodes.instances.iter_mut().zip(row(MOST_CHILDREN, &places)) {
         instance.children = (0..).zip(children).collect();
     }
-    nodes.write_with(&crowding.node_names(), 0, start(places.len(), 1))
+    nodes.write_with(&crowding.node_names(limits), 0, start(places.len(), 1))
 }
 
-/// [`captures`] of 65,536 bytes whose last node instance captures, as its last,
-/// a register instance that is absent.
-pub fn late_absence() -> Vec<u8> {
-    let mut file = captures(0);
-    capture_last(&mut file, [0, 0, 9, 0]);
+/// [`captures`] whose last node instance captures, as its last, a register
+/// instance that is absent.
+pub fn late_absence(limits: Limits) -> Vec<u8> {
+    let mut file = captures(limits, 0);
+    let [_, _, _, registers] = (limits.register_instances as u32 / 128).to_be_bytes();
+    capture_last(&mut file, [0, 0, registers + 1, 0]);
     file
 }
 
 /// As [`late_absence`], but the register is there: the last one, write-only,
-/// with the last of the 1,024 register instances.
-pub fn late_write_only() -> Vec<u8> {
-    let others = MAX_REGISTER_INSTANCES - 1;
+/// with the last of the register instances.
+pub fn late_write_only(limits: Limits) -> Vec<u8> {
+    let others = limits.register_instances - 1;
+    let last = others.div_ceil(128) as u8 + 1;
     let mut file = start(others, 128);
-    file[REGISTER_COUNT_AT..REGISTER_COUNT_AT + 3].copy_from_slice(&[0, 0, 9]);
-    file.extend([0, 0, 9, 1, WRITABLE, 1, 0, 0, 0, 8, 0]);
+    file[REGISTER_COUNT_AT..REGISTER_COUNT_AT + 3].copy_from_slice(&[0, 0, last]);
+    file.extend([0, 0, last, 1, WRITABLE, 1, 0, 0, 0, 8, 0]);
     let name = |position| register_name(position, 128);
-    let mut file = full_of_captures(file, others, name, MAX_FILE_BYTES);
-    capture_last(&mut file, [0, 0, 9, 0]);
+    let mut file = full_of_captures(file, limits, others, name, 0);
+    capture_last(&mut file, [0, 0, last, 0]);
     file
 }
 
@@ -491,17 +560,17 @@ fn capture_last(file: &mut [u8], name: [u8; 4]) {
     file[behind - 4..behind].copy_from_slice(&name);
 }
 
-/// A file of about so many bytes, at most 65,536, with some of everything: for
-/// each 256 bytes a node instance and four registers. An instance has a rule
-/// over its four registers, the next four instances as children, and captures
-/// in the rest of its bytes.
+/// A file of about so many bytes, not too long, with some of everything: for each
+/// 256 bytes a node instance and four registers, while there may be as many. An
+/// instance has a rule over its four registers, the next four instances as
+/// children, and captures in the rest of its bytes.
 pub fn of_size(bytes: usize) -> Vec<u8> {
     of_size_in(Order::Rising, bytes)
 }
 
 /// The same with the IDs of registers and of nodes in this order.
 pub fn of_size_in(order: Order, bytes: usize) -> Vec<u8> {
-    let instances = (bytes / 256).clamp(1, MAX_NODE_INSTANCES);
+    let instances = (bytes / 256).clamp(1, Limits::LIBRARY.node_instances);
     let registers = 4 * instances;
     let ids = order.ids(registers);
     let file = start_with(&ids, registers, 1);
@@ -574,6 +643,7 @@ pub const MOST_CHILDREN: usize = 60;
 #[cfg(test)]
 mod tests {
     use super::*;
+    use crate::checker::check_within;
     use crate::refusal::Refusal;
     use crate::{bits_above_silent, check, hex, isolate};
 
@@ -590,58 +660,86 @@ mod tests {
         (summary.register_instances, summary.node_instances)
     }
 
+    const LIMITS: [Limits; 2] = [Limits::PROGRAM, Limits::LIBRARY];
+
+    /// As many register instances and node instances as there may be.
+    fn both(limits: Limits) -> (usize, usize) {
+        (limits.register_instances, limits.node_instances)
+    }
+
     #[test]
     fn at_the_limits_and_beyond() {
-        assert_eq!(counts(&register_instances(1_024, 1)), (1_024, 1));
-        assert_eq!(counts(&register_instances(1_024, 255)), (1_024, 1));
-        assert_eq!(check(&register_instances(1_025, 1)).unwrap_err().number, 8);
-        assert_eq!(counts(&node_instances(256)), (256, 256));
-        assert_eq!(check(&node_instances(257)).unwrap_err().number, 8);
+        for limits in LIMITS {
+            let number = |file: &[u8]| check_within(file, limits).unwrap_err().number;
+            let (registers, nodes) = both(limits);
+            for in_one in [1, 255] {
+                let file = register_instances(registers, in_one);
+                assert_eq!(counts(&file), (registers, 1));
+                assert!(check_within(&file, limits).is_ok());
+                assert_eq!(number(&register_instances(registers + 1, in_one)), 8);
+                let file = short_node_instances(nodes, in_one);
+                assert_eq!(counts(&file), (1, nodes));
+                assert!(check_within(&file, limits).is_ok());
+                assert_eq!(number(&short_node_instances(nodes + 1, in_one)), 8);
+            }
+            assert_eq!(counts(&node_instances(nodes)), (nodes, nodes));
+            assert_eq!(number(&node_instances(nodes + 1)), 8);
 
-        let full = captures(0);
-        assert_eq!(full.len(), 65_536);
-        assert_eq!(counts(&full), (1_024, 256));
-        let longer = captures(1);
-        assert_eq!(longer.len(), 65_537);
-        let refusal = Refusal::new(1, 0);
-        assert_eq!(check(&longer), Err(refusal));
+            let full = captures(limits, 0);
+            assert_eq!(full.len(), limits.bytes);
+            assert_eq!(counts(&full), both(limits));
+            let longer = captures(limits, 1);
+            assert_eq!(longer.len(), limits.bytes + 1);
+            let refusal = Refusal::new(1, 0);
+            assert_eq!(check_within(&longer, limits), Err(refusal));
 
-        let deep = deep_expressions();
-        assert!((64_000..=65_536).contains(&deep.len()), "{}", deep.len());
-        assert_eq!(counts(&deep), (1_024, 256));
+            let deep = deep_expressions(limits);
+            let most = limits.bytes;
+            assert!((most - most / 32..=most).contains(&deep.len()));
+            assert_eq!(counts(&deep), both(limits));
+        }
     }
 
     #[test]
     fn files_to_measure_with() {
+        for limits in LIMITS {
+            files_to_measure_with_at(limits);
+        }
+    }
+
+    fn files_to_measure_with_at(limits: Limits) {
+        let (registers, nodes) = both(limits);
         for order in ORDERS {
-            assert_eq!(counts(&registers_in(order)), (1_024, 1));
-            assert_eq!(counts(&nodes_in(order)), (256, 256));
-            let place = file_position_of_register(1_023);
-            let refusal = check(&late_duplicate(order)).unwrap_err();
+            assert_eq!(counts(&registers_in(order, registers)), (registers, 1));
+            assert_eq!(counts(&nodes_in(order, nodes)), (nodes, nodes));
+            let place = file_position_of_register(registers - 1);
+            let refusal = check(&late_duplicate(order, registers)).unwrap_err();
             assert_eq!(refusal, Refusal::new(7, place));
         }
-        assert_eq!(registers_in(Order::Rising), register_instances(1_024, 1));
-        assert_eq!(nodes_in(Order::Rising), node_instances(256));
-        assert_eq!(counts(&mixed_children(MOST_CHILDREN)), (256, 256));
-        assert_eq!(row_at(0), children(1, false));
-        assert_eq!(counts(&row_at(63)), (256, 256));
+        let rising = registers_in(Order::Rising, registers);
+        assert_eq!(rising, register_instances(registers, 1));
+        assert_eq!(nodes_in(Order::Rising, nodes), node_instances(nodes));
+        let mixed = mixed_children(nodes, MOST_CHILDREN);
+        assert_eq!(counts(&mixed), (nodes, nodes));
+        assert_eq!(row_at(nodes, 0), children(nodes, 1, false));
+        assert_eq!(counts(&row_at(nodes, 63)), (nodes, nodes));
 
-        let file = late_absence();
+        let file = late_absence(limits);
         let refusal = check(&file).unwrap_err();
         assert_eq!(refusal, Refusal::new(12, file.len() - 19));
-        let mut file = late_write_only();
-        assert_eq!(file.len(), 65_536);
+        let mut file = late_write_only(limits);
+        assert_eq!(file.len(), limits.bytes);
         let place = file.len() - 19;
         assert_eq!(check(&file).unwrap_err(), Refusal::new(13, place));
-        // Register 1 instead, or an instance that is not there.
-        file[place + 2] = 1;
-        assert_eq!(counts(&file), (1_024, 256));
-        file[place + 2..place + 4].copy_from_slice(&[9, 1]);
+        // Another instance of it, which is not there, or register 1 instead.
+        file[place + 3] = 1;
         assert_eq!(check(&file).unwrap_err(), Refusal::new(12, place));
-        let file = late_absent_child();
+        file[place + 2] = 1;
+        assert_eq!(counts(&file), both(limits));
+        let file = late_absent_child(nodes);
         let refusal = check(&file).unwrap_err();
         assert_eq!(refusal, Refusal::new(12, file.len() - 9 - 14 - 4));
-        let file = late_cycle();
+        let file = late_cycle(nodes);
         let refusal = check(&file).unwrap_err();
         assert_eq!(refusal.number, 14);
         // The last two instances have 14 bytes each and one child each.
@@ -650,10 +748,11 @@ mod tests {
 
     #[test]
     fn sizes() {
-        for bytes in [1_024, 2_048, 4_096, 8_192, 16_384, 32_768, 65_536] {
+        for power in 10..=20 {
+            let bytes = 1 << power;
             let file = of_size(bytes);
             assert!((bytes - 4..=bytes).contains(&file.len()), "{}", file.len());
-            let instances = bytes / 256;
+            let instances = (bytes / 256).min(1_024);
             assert_eq!(counts(&file), (4 * instances, instances));
             let words = vec![0xF << 60; 4 * instances];
             let read = vec![1; 4 * instances];
@@ -675,48 +774,58 @@ mod tests {
         assert_eq!(Order::Alternating.ids(5), [2, 1, 4, 3, 5]);
     }
 
+    /// At one place, and without one.
+    fn crowd(crowded: Crowded, ids: &[u32], bits: usize) -> (usize, usize) {
+        let numbers: Vec<u64> = ids.iter().map(|&id| u64::from(id) << bits).collect();
+        let crowd = crowded.places.crowd(&numbers);
+        (crowd.most_at_one_start, crowd.without_place)
+    }
+
     #[test]
     fn names_are_crowded() {
-        let registers = Places::OF_REGISTERS;
-        let nodes = Places::OF_NODES;
-        for crowding in [Crowding::By64, Crowding::AtTheEnd] {
-            let numbers = |ids: Vec<u32>, bits: usize| -> Vec<u64> {
-                ids.iter().map(|&id| u64::from(id) << bits).collect()
-            };
-            for (crowd, count) in [
-                (
-                    registers.crowd(&numbers(crowding.ids(1_024, registers, |id| id), 0)),
-                    1_024,
-                ),
-                (
-                    registers.crowd(&numbers(crowding.register_names(), 8)),
-                    1_024,
-                ),
-                (
-                    nodes.crowd(&numbers(crowding.ids(256, nodes, |id| id), 0)),
-                    256,
-                ),
-                (nodes.crowd(&numbers(crowding.node_names(), 8)), 256),
+        // So many at one place; and all at so many places, of which the last has
+        // 32 behind it.
+        for (limits, [of_registers, of_nodes]) in [
+            (Limits::PROGRAM, [(64, 4), (64, 4)]),
+            (Limits::LIBRARY, [(64, 16), (16, 64)]),
+        ] {
+            for (crowded, (alike, places)) in [
+                (Crowded::registers(limits), of_registers),
+                (Crowded::nodes(limits), of_nodes),
             ] {
-                match crowding {
-                    Crowding::AtTheEnd => assert_eq!(crowd.without_place, count - 36),
-                    _ => assert_eq!((crowd.most_at_one_start, crowd.without_place), (64, 0)),
+                for (bits, of) in [(0, 1), (8, 256)] {
+                    let ids = Crowding::By64.ids(crowded, |id| id * of);
+                    assert_eq!(crowd(crowded, &ids, bits), (alike, 0));
+                    let ids = Crowding::AtTheEnd.ids(crowded, |id| id * of);
+                    let (_, without_place) = crowd(crowded, &ids, bits);
+                    assert_eq!(without_place, crowded.count - places - 32);
                 }
             }
         }
-        for crowding in [Crowding::None, Crowding::By64, Crowding::AtTheEnd] {
-            assert_eq!(counts(&crowded_registers(crowding)), (1_024, 1));
-            assert_eq!(counts(&crowded_nodes(crowding)), (256, 256));
-            assert_eq!(counts(&crowded_captures(crowding)), (1_024, 256));
-            assert_eq!(crowded_captures(crowding).len(), 65_536);
-            assert_eq!(counts(&crowded_children(crowding)), (256, 256));
-            let refusal = check(&late_crowded_absence(crowding)).unwrap_err();
-            assert_eq!(refusal, Refusal::new(12, 65_536 - 19));
+    }
+
+    #[test]
+    fn crowded_files() {
+        for limits in LIMITS {
+            let (registers, nodes) = both(limits);
+            for crowding in [Crowding::None, Crowding::By64, Crowding::AtTheEnd] {
+                let file = crowded_registers(limits, crowding);
+                assert_eq!(counts(&file), (registers, 1));
+                let file = crowded_nodes(limits, crowding);
+                assert_eq!(counts(&file), (nodes, nodes));
+                let file = crowded_captures(limits, crowding);
+                assert_eq!(counts(&file), both(limits));
+                assert_eq!(file.len(), limits.bytes);
+                let file = crowded_children(limits, crowding);
+                assert_eq!(counts(&file), (nodes, nodes));
+                let refusal = check(&late_crowded_absence(limits, crowding)).unwrap_err();
+                assert_eq!(refusal, Refusal::new(12, limits.bytes - 19));
+            }
+            let forward = children(nodes, MOST_CHILDREN, false);
+            assert_eq!(crowded_children(limits, Crowding::None), forward);
+            let falling = registers_in(Order::Falling, registers);
+            assert_eq!(crowded_registers(limits, Crowding::None), falling);
         }
-        let forward = children(MOST_CHILDREN, false);
-        assert_eq!(crowded_children(Crowding::None), forward);
-        let falling = registers_in(Order::Falling);
-        assert_eq!(crowded_registers(Crowding::None), falling);
     }
 
     #[test]
@@ -739,31 +848,41 @@ mod tests {
 
     #[test]
     fn most_children_are_silent() {
-        let file = children(MOST_CHILDREN, false);
-        let words = every_fourth();
-        let mut list = vec![0; 256 * 64 * 8];
-        let answer = isolate(&file, ATTENTION_TYPE, &words, &[1; 256], &mut list);
-        // Each of 64 instances has 64 active bits. 15 of these have a child that
-        // shows something, and fewer near the end of the row.
-        let followed: usize = (0..64).map(|rank| (63 - rank).min(15)).sum();
-        assert_eq!(answer, Ok((64 * 64 - followed, 256)));
-        let above_silent = bits_above_silent(&file, ATTENTION_TYPE, &words, &[1; 256]);
-        let entries: usize = (0..64).map(|rank| (255 - 4 * rank).min(60)).sum();
-        assert_eq!(above_silent, entries - followed);
+        for count in [256, 1_024] {
+            let file = children(count, MOST_CHILDREN, false);
+            let words = every_fourth(count);
+            let read = vec![1; count];
+            let mut list = vec![0; count * 64 * 8];
+            let answer = isolate(&file, ATTENTION_TYPE, &words, &read, &mut list);
+            // Each fourth instance has 64 active bits. 15 of these have a child
+            // that shows something, and fewer near the end of the row.
+            let showing = count / 4;
+            let followed: usize = (0..showing).map(|rank| (showing - 1 - rank).min(15)).sum();
+            assert_eq!(answer, Ok((showing * 64 - followed, count)));
+            let above_silent = bits_above_silent(&file, ATTENTION_TYPE, &words, &read);
+            let entries = (0..showing).map(|rank| (count - 1 - 4 * rank).min(60));
+            assert_eq!(above_silent, entries.sum::<usize>() - followed);
+        }
     }
 
     #[test]
     fn all_children_are_reached() {
-        for backward in [false, true] {
-            for most in [1, MOST_CHILDREN] {
-                let file = children(most, backward);
-                assert!(file.len() <= 65_536);
-                let mut list = vec![0; 256 * 64 * 8];
-                let words = [u64::MAX; 256];
-                let answer = isolate(&file, ATTENTION_TYPE, &words, &[1; 256], &mut list);
-                // Each bit without a child is listed.
-                let entries: usize = (0..255).map(|rank| most.min(255 - rank)).sum();
-                assert_eq!(answer, Ok((256 * 64 - entries, 256)));
+        for (count, limits) in [(256, Limits::PROGRAM), (1_024, Limits::LIBRARY)] {
+            let words = vec![u64::MAX; count];
+            let read = vec![1; count];
+            let mut list = vec![0; count * 64 * 8];
+            for backward in [false, true] {
+                for most in [1, MOST_CHILDREN] {
+                    let file = children(count, most, backward);
+                    assert!(file.len() <= limits.bytes);
+                    let answer = isolate(&file, ATTENTION_TYPE, &words, &read, &mut list);
+                    // Each bit without a child is listed.
+                    let entries: usize = (1..count).map(|behind| most.min(behind)).sum();
+                    assert_eq!(answer, Ok((count * 64 - entries, count)));
+                }
+                let file = row_of_one_register(count, backward);
+                let answer = isolate(&file, ATTENTION_TYPE, &[1 << 63], &[1], &mut list);
+                assert_eq!(answer, Ok((1, count)));
             }
         }
     }

@@ -12,9 +12,29 @@ use crate::tree::{
     RegisterInstance, RegisterName, RegisterType, Root, Rule, Tree,
 };
 
-pub const MAX_FILE_BYTES: usize = 65_536;
-pub const MAX_REGISTER_INSTANCES: usize = 1_024;
-pub const MAX_NODE_INSTANCES: usize = 256;
+/// How long a file may be, and how many instances it may have.
+#[derive(Clone, Copy, Debug, PartialEq, Eq)]
+pub struct Limits {
+    pub bytes: usize,
+    pub register_instances: usize,
+    pub node_instances: usize,
+}
+
+impl Limits {
+    /// Of the library's calls: check, address and isolation.
+    pub const LIBRARY: Limits = Limits {
+        bytes: 1_048_576,
+        register_instances: 8_192,
+        node_instances: 1_024,
+    };
+    /// Of the station's text.
+    pub const PROGRAM: Limits = Limits {
+        bytes: 65_536,
+        register_instances: 1_024,
+        node_instances: 256,
+    };
+}
+
 /// The outermost expression has level 1.
 pub const MAX_EXPRESSION_LEVEL: usize = 16;
 
@@ -44,12 +64,17 @@ pub fn is_attention_type(byte: u8) -> bool {
     (LOWEST_ATTENTION..=HIGHEST_ATTENTION).contains(&byte)
 }
 
-/// The tree of a file that meets the layout.
+/// The tree of a file that meets the layout, by the library's limits.
 pub fn read(file: &[u8]) -> Result<Tree, Refusal> {
-    if file.len() > MAX_FILE_BYTES {
+    read_within(file, Limits::LIBRARY)
+}
+
+/// The tree of a file that meets the layout, by these limits.
+pub fn read_within(file: &[u8], limits: Limits) -> Result<Tree, Refusal> {
+    if file.len() > limits.bytes {
         return Err(Refusal::new(refusal::FILE_TOO_LONG, 0));
     }
-    let mut walk = Walk::new(file);
+    let mut walk = Walk::new(file, limits);
     walk.start()?;
     walk.registers()?;
     walk.nodes()?;
@@ -88,14 +113,16 @@ impl ByteSet {
 
 struct Walk<'a> {
     file: &'a [u8],
+    limits: Limits,
     at: usize,
     tree: Tree,
 }
 
 impl<'a> Walk<'a> {
-    fn new(file: &'a [u8]) -> Self {
+    fn new(file: &'a [u8], limits: Limits) -> Self {
         Walk {
             file,
+            limits,
             at: 0,
             tree: Tree {
                 model: 0,
@@ -262,7 +289,7 @@ impl<'a> Walk<'a> {
         for _ in 0..self.count(1)? {
             let number = self.instance_number(
                 self.tree.register_instances.len(),
-                MAX_REGISTER_INSTANCES,
+                self.limits.register_instances,
                 &mut numbers,
             )?;
             let address = self.bytes(register_type.address_size())?;
@@ -310,8 +337,11 @@ impl<'a> Walk<'a> {
         id: u16,
         numbers: &mut ByteSet,
     ) -> Result<NodeInstance, Refusal> {
-        let number =
-            self.instance_number(self.tree.node_instances.len(), MAX_NODE_INSTANCES, numbers)?;
+        let number = self.instance_number(
+            self.tree.node_instances.len(),
+            self.limits.node_instances,
+            numbers,
+        )?;
         let capture_count = self.byte()?.value;
         let rule_count = self.count(1)?;
         let child_count = self.byte()?.value;

@@ -21,5 +21,6 @@ pub mod vectors;
 
 pub use checker::{address, check, Accepted, Summary};
 pub use isolation::{bits_above_silent, isolate, isolate_with_readings_file, reached_words};
+pub use layout::Limits;
 pub use refusal::Refusal;
 pub use report::report;

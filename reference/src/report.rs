@@ -1,7 +1,8 @@
 //! What the station prints for a chip data file, an attention type and a
-//! readings file.
+//! readings file. The station has limits of its own, lower than the library's.
 
 use crate::isolation::{isolate_with_readings_file, Record, RECORD_BYTES};
+use crate::layout::Limits;
 use crate::refusal::Refusal;
 
 /// The records that the station's list holds.
@@ -23,8 +24,13 @@ pub fn report(file: &[u8], attention_type: u8, readings_file: &[u8]) -> String {
 /// The answer that the text is of.
 pub fn find(file: &[u8], attention_type: u8, readings_file: &[u8]) -> Result<Found, Refusal> {
     let mut list = vec![[0; RECORD_BYTES]; LIST_RECORDS];
-    let (records, steps) =
-        isolate_with_readings_file(file, attention_type, readings_file, list.as_flattened_mut())?;
+    let (records, steps) = isolate_with_readings_file(
+        file,
+        Limits::PROGRAM,
+        attention_type,
+        readings_file,
+        list.as_flattened_mut(),
+    )?;
     list.truncate(records);
     Ok(Found {
         records: list,

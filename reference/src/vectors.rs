@@ -6,10 +6,11 @@ use std::collections::HashMap;
 use crate::checker::{self, Accepted};
 use crate::generate::{self, Case, Random, Sizes, HIGHEST_NUMBER};
 use crate::isolation::RECORD_BYTES;
-use crate::layout::{self, MAX_FILE_BYTES};
+use crate::large::{self, Order};
+use crate::layout::{self, Limits};
 use crate::readings::READ;
 use crate::refusal::{self, Refusal};
-use crate::{address, bits_above_silent, cases, check, isolate, large};
+use crate::{address, bits_above_silent, cases, check, isolate};
 
 pub const KEYWORD: [u8; 8] = *b"LUTEVECT";
 /// Keyword, place of the first case (4), number of cases (4).
@@ -251,12 +252,18 @@ struct Writer {
 }
 
 /// Each refusal is aimed at until it has so many isolation cases.
-const FEWEST: usize = 100;
+const FEWEST: usize = 60;
 /// A small case of a refusal that has so many is left out.
-const ENOUGH: usize = 160;
-const SUCCESSES: usize = 850;
+const ENOUGH: usize = 72;
+const SUCCESSES: usize = 340;
+/// Isolation cases whose files go on over others.
+const WINDOWS: usize = 80;
 /// The most that an ordinary case may add to the file of vectors.
 const MOST_OF_A_CASE: usize = 900;
+/// The most bytes of a file with too many instances that comes by chance.
+const MOST_OF_TOO_MANY: usize = 24_000;
+/// The files of all cases have so many bytes more than one may have.
+const LONGER_THAN_A_FILE: usize = 8_000;
 
 impl Writer {
     fn place(&mut self, file: &[u8]) -> (usize, usize) {
@@ -419,25 +426,25 @@ impl Writer {
     /// Instances beyond the limits: a few files, cut behind that place.
     fn too_many_instances(&mut self) {
         let mut files = vec![
-            large::register_instances(1_025, 1),
-            large::register_instances(1_030, 255),
-            large::node_instances(257),
-            large::node_instances(260),
+            large::register_instances(8_193, 255),
+            large::short_node_instances(1_025, 255),
+            large::short_node_instances(1_030, 1),
+            large::node_instances(1_025),
         ];
-        while files.len() < 10 {
+        while files.len() < 7 {
             let case =
                 generate::aimed_case(&mut self.random, refusal::TOO_MANY_INSTANCES, Sizes::Small);
-            files.push(case.file);
+            let is_refused = check(&case.file)
+                .is_err_and(|refusal| refusal.number == refusal::TOO_MANY_INSTANCES);
+            if is_refused && case.file.len() <= MOST_OF_TOO_MANY {
+                files.push(case.file);
+            }
         }
         for file in &files {
             let Err(refusal) = check(file) else { continue };
             self.store_check(file);
-            for _ in 0..8 {
-                let length = if refusal.number == refusal::TOO_MANY_INSTANCES {
-                    self.random.between(refusal.place + 1, file.len())
-                } else {
-                    file.len()
-                };
+            for _ in 0..9 {
+                let length = self.random.between(refusal.place + 1, file.len());
                 let case = self.any_isolation(file[..length].to_vec());
                 self.store_isolation(&case);
             }
@@ -445,18 +452,54 @@ impl Writer {
         }
     }
 
-    /// Accepted files at the limits, with readings, and cuts of them.
+    /// Instances that are too many for the station alone, with a fault behind the
+    /// first of these and without one.
+    fn too_many_for_the_station(&mut self) {
+        for (file, instances) in [
+            (large::register_instances(1_025, 1), 1_025),
+            (large::register_instances(1_030, 255), 1),
+            (large::short_node_instances(257, 255), 1),
+            (large::node_instances(257), 257),
+        ] {
+            self.store_check(&file);
+            self.store_check(&file[..file.len() - 9]);
+            self.store_address(&file, 1, 0);
+            self.store_isolation(&Case {
+                file,
+                attention_type: large::ATTENTION_TYPE,
+                words: vec![u64::MAX; instances],
+                read: vec![READ; instances],
+                room: 64 * RECORD_BYTES + 3,
+            });
+        }
+        let mut left = 8;
+        while left > 0 {
+            let case = generate::too_large_case(&mut self.random);
+            if case.file.len() <= MOST_OF_TOO_MANY / 4 {
+                self.store_check(&case.file);
+                left -= 1;
+            }
+        }
+    }
+
+    /// Accepted files at the limits, with readings, and cuts of them. Those at the
+    /// library's have few registers, or no readings that fit them.
     fn limits(&mut self) {
         let files = [
             large::register_instances(1_024, 1),
             large::register_instances(1_024, 255),
             large::node_instances(256),
-            large::captures(0),
-            large::deep_expressions(),
-            large::children(1, false),
-            large::children(1, true),
-            large::children(large::MOST_CHILDREN, true),
+            large::captures(Limits::PROGRAM, 0),
+            large::deep_expressions(Limits::PROGRAM),
+            large::children(256, 1, false),
+            large::children(256, 1, true),
+            large::children(256, large::MOST_CHILDREN, true),
             large::full_counts(),
+            large::register_instances(8_192, 255),
+            large::registers_in(Order::Shuffled, 8_192),
+            large::short_node_instances(1_024, 255),
+            large::row_of_one_register(1_024, false),
+            large::row_of_one_register(1_024, true),
         ];
         for file in files {
             self.store_check(&file);
@@ -477,20 +520,26 @@ impl Writer {
                 words,
                 room,
             };
+            self.store_isolation(&case(vec![0; 2], 800));
+            if instances > MOST_WORDS || instances > 256 && accepted.tree.nodes.len() == 1 {
+                continue;
+            }
+            self.store_isolation(&case(vec![u64::MAX; instances], 8_191));
+            if instances > 256 {
+                continue;
+            }
             // One bit with a child, where there are children.
             self.store_isolation(&case(vec![1 << 63; instances], 2_048 + 5));
-            self.store_isolation(&case(vec![u64::MAX; instances], 8_191));
             let mut unread = case(vec![u64::MAX; instances], 800);
             unread.read[instances - 1] = 0;
             self.store_isolation(&unread);
-            self.store_isolation(&case(vec![0; 2], 800));
         }
         // As many records as the station's list holds: 63 of each of 65
         // instances, and one of the last. Then a byte less.
         let mut words = vec![1 << 63; 256];
         words[..65].fill(u64::MAX);
         let mut case = Case {
-            file: large::children(1, false),
+            file: large::children(256, 1, false),
             attention_type: large::ATTENTION_TYPE,
             read: vec![READ; 256],
             words,
@@ -506,11 +555,11 @@ impl Writer {
 
     /// Large files in which most children that are reached show nothing.
     fn silent_children(&mut self) {
-        let last = layout::MAX_NODE_INSTANCES - 1;
+        let last = 255;
         for (file, instances, root) in [
-            (large::children(1, false), 256, 0),
-            (large::children(1, true), 256, last),
-            (large::children(large::MOST_CHILDREN, true), 256, last),
+            (large::children(256, 1, false), 256, 0),
+            (large::children(256, 1, true), 256, last),
+            (large::children(256, large::MOST_CHILDREN, true), 256, last),
             (large::full_counts(), 255, 0),
         ] {
             let case = |words: Vec<u64>, room| Case {
@@ -526,8 +575,7 @@ impl Writer {
             words[root] = u64::MAX;
             self.store_isolation(&case(words.clone(), 64 * RECORD_BYTES + 3));
             self.store_isolation(&case(words, 64 * RECORD_BYTES - 1));
-            let mut words = large::every_fourth();
-            words.truncate(instances);
+            let mut words = large::every_fourth(instances);
             if root == last {
                 words.reverse();
             }
@@ -619,31 +667,44 @@ impl Writer {
         }
     }
 
+    /// A file of captures, too long for the station, that brings the files of all
+    /// cases together to more bytes than one may have.
+    fn long_file(&mut self) {
+        let together = Limits::LIBRARY.bytes + LONGER_THAN_A_FILE;
+        let bytes = together.saturating_sub(self.bytes.len());
+        let file = large::captures(
+            Limits {
+                bytes: bytes.max(Limits::PROGRAM.bytes + 1),
+                ..Limits::PROGRAM
+            },
+            0,
+        );
+        self.store_check(&file);
+        self.store_check(&file[..file.len() - 1]);
+        self.store_address(&file, 1, 0);
+    }
+
     /// Files that go on over those stored behind them: too long, or with bytes
     /// after the last root. They need the files of the cases before.
     fn windows(&mut self) {
+        let most = Limits::LIBRARY.bytes;
         let end = self.bytes.len();
         let early: Vec<usize> = self
             .places
             .iter()
             .copied()
-            .filter(|place| place + MAX_FILE_BYTES < end)
+            .filter(|place| place + most < end)
             .collect();
-        let full = large::captures(0);
-        let (full, _) = self.place(&full);
-        for round in 0..FEWEST {
-            let place = if round == 0 {
-                full
-            } else {
-                *self.random.pick(&early)
-            };
+        for round in 0..WINDOWS {
+            let place = *self.random.pick(&early);
             let length = match round % 10 {
-                0 | 1 => MAX_FILE_BYTES + 1,
-                2 => MAX_FILE_BYTES + 2,
+                0 | 1 => most + 1,
+                2 => (most + 2).min(end - place),
                 3 => end - place,
-                4 => MAX_FILE_BYTES,
-                5 => self.random.between(1, MAX_FILE_BYTES),
-                _ => self.random.between(MAX_FILE_BYTES + 1, end - place),
+                4 => most,
+                5 => Limits::PROGRAM.bytes + round / 10 % 2,
+                6 => self.random.between(1, most),
+                _ => self.random.between(most + 1, end - place),
             };
             let case = self.any_isolation(self.bytes[place..place + length].to_vec());
             self.isolation(&case, (place, length));
@@ -701,7 +762,9 @@ pub fn build(seed: u64) -> Vec<u8> {
     writer.limits();
     writer.silent_children();
     writer.too_many_instances();
+    writer.too_many_for_the_station();
     writer.checks_and_addresses();
+    writer.long_file();
     writer.windows();
     writer.hand_made_calls(cases::isolations_of_bits());
     writer.finish()

@@ -159,12 +159,14 @@ type Step = Result<(), (u8, usize)>;
 
 impl Checker<'_> {
     fn run(tree: &Tree, wrong: Wrong) -> Named {
-        let mut registers = Table::new(Places::OF_REGISTERS, 32, wrong);
+        let (of_registers, of_nodes) =
+            Places::of_class(tree.register_instances.len(), tree.node_instances.len());
+        let mut registers = Table::new(of_registers, 32, wrong);
         for instance in &tree.register_instances {
             let id = tree.registers[instance.register].id;
             registers.add(u64::from(id) << 8 | u64::from(instance.number));
         }
-        let mut nodes = Table::new(Places::OF_NODES, 24, wrong);
+        let mut nodes = Table::new(of_nodes, 24, wrong);
         for instance in &tree.node_instances {
             nodes.add(u64::from(instance.name.id) << 8 | u64::from(instance.name.instance));
         }
@@ -275,9 +277,13 @@ fn wrong_tables_are_caught() {
         let map = generate::colliding_file(&mut random);
         let case = generate::case_of(&mut random, &map);
         if case.file.len() == map.bytes.len() {
+            let (of_registers, of_nodes) = Places::of_class(
+                map.count(FieldKind::RegisterInstance),
+                map.count(FieldKind::NodeInstance),
+            );
             for (kind, of, bits) in [
-                (FieldKind::RegisterId, Places::OF_REGISTERS, 24),
-                (FieldKind::NodeId, Places::OF_NODES, 16),
+                (FieldKind::RegisterId, of_registers, 24),
+                (FieldKind::NodeId, of_nodes, 16),
             ] {
                 let ids = ids(&case, &map, kind);
                 let right = first_repeated(&ids, of, bits, Wrong::Nothing);

@@ -2,7 +2,7 @@
 
 use reference::generate::{self, Case, Random, Shape, Sizes, HIGHEST_NUMBER};
 use reference::large::{Crowding, ORDERS};
-use reference::{address, cases, check, fast, isolate, large, report, Accepted};
+use reference::{address, cases, check, fast, isolate, large, report, Accepted, Limits};
 
 fn compare_isolation(case: &Case) -> u8 {
     let mut expected_list = vec![0xEE; case.room];
@@ -101,6 +101,8 @@ fn random_cases() {
         seen[usize::from(compare_isolation(&case))] += 1;
         compare_report(&mut random, &case);
     }
+    // Number 1 needs a long file, which is rare.
+    seen[1] *= 8;
     assert!(seen.iter().all(|&count| count >= 200), "{seen:?}");
 }
 
@@ -118,14 +120,28 @@ fn large_cases() {
         compare_isolation(&case);
         compare_report(&mut random, &case);
     }
-    for children in [1, 2, 4, large::MOST_CHILDREN] {
-        let case = Case {
-            file: large::children(children, false),
-            attention_type: large::ATTENTION_TYPE,
-            words: large::every_fourth(),
-            read: vec![1; 256],
-            room: 256 * 64 * 8,
-        };
+    for instances in [256, 1_024] {
+        for children in [1, 2, 4, large::MOST_CHILDREN] {
+            let case = Case {
+                file: large::children(instances, children, false),
+                attention_type: large::ATTENTION_TYPE,
+                words: large::every_fourth(instances),
+                read: vec![1; instances],
+                room: instances * 64 * 8,
+            };
+            compare_isolation(&case);
+            compare_report(&mut random, &case);
+        }
+    }
+}
+
+/// Files that are too large for the station alone.
+#[test]
+fn too_large_cases() {
+    let mut random = Random::new(49);
+    for _ in 0..1_500 {
+        let case = generate::too_large_case(&mut random);
+        assert_eq!(fast::check(&case.file), check(&case.file));
         compare_isolation(&case);
         compare_report(&mut random, &case);
     }
@@ -147,8 +163,13 @@ fn addresses() {
             assert_eq!(fast::address(&case.file, id, instance), expected);
         }
     }
-    let last = large::register_instances(1_024, 1);
-    assert_eq!(fast::address(&last, 1_024, 0), address(&last, 1_024, 0));
+    for registers in [1_024, 8_192, 8_193] {
+        let file = large::register_instances(registers, 1);
+        for id in [registers - 1, registers, registers + 1] {
+            let id = id as u32;
+            assert_eq!(fast::address(&file, id, 0), address(&file, id, 0));
+        }
+    }
 }
 
 /// Every cut of small files, every byte of them changed, and files that are put
@@ -236,15 +257,19 @@ fn orders_of_ids() {
     let mut random = Random::new(46);
     for order in ORDERS {
         for file in [
-            large::registers_in(order),
-            large::nodes_in(order),
-            large::late_duplicate(order),
+            large::registers_in(order, 1_024),
+            large::nodes_in(order, 256),
+            large::late_duplicate(order, 1_024),
+            large::registers_in(order, 8_192),
+            large::nodes_in(order, 1_024),
+            large::late_duplicate(order, 8_192),
         ] {
             assert_eq!(fast::check(&file), check(&file));
-            for id in [0, 1, 2, 512, 1_023, 1_024, 1_025] {
+            for id in [0, 1, 2, 512, 1_023, 1_024, 1_025, 8_192] {
                 assert_eq!(fast::address(&file, id, 0), address(&file, id, 0));
             }
-            for _ in 0..60 {
+            let rounds = if file.len() < 20_000 { 60 } else { 10 };
+            for _ in 0..rounds {
                 let mut file = file.clone();
                 // A register's ID becomes that of another.
                 let (to, from) = (random.below(256), random.below(256));
@@ -257,15 +282,21 @@ fn orders_of_ids() {
             }
         }
     }
-    for file in [
-        large::mixed_children(large::MOST_CHILDREN),
-        large::late_cycle(),
-        large::late_absence(),
-        large::late_absent_child(),
-        large::late_write_only(),
-        large::of_size(65_536),
-    ] {
-        assert_eq!(fast::check(&file), check(&file));
+    for limits in [Limits::PROGRAM, Limits::LIBRARY] {
+        let nodes = limits.node_instances;
+        for file in [
+            large::mixed_children(nodes, large::MOST_CHILDREN),
+            large::late_cycle(nodes),
+            large::late_absence(limits),
+            large::late_absent_child(nodes),
+            large::late_write_only(limits),
+            large::captures(limits, 0),
+            large::captures(limits, 1),
+            large::deep_expressions(limits),
+            large::of_size(limits.bytes),
+        ] {
+            assert_eq!(fast::check(&file), check(&file));
+        }
     }
 }
 
@@ -289,15 +320,17 @@ fn colliding_cases() {
             assert_eq!(fast::address(&case.file, id, instance), expected);
         }
     }
-    for crowding in [Crowding::None, Crowding::By64, Crowding::AtTheEnd] {
-        for file in [
-            large::crowded_registers(crowding),
-            large::crowded_nodes(crowding),
-            large::crowded_captures(crowding),
-            large::late_crowded_absence(crowding),
-            large::crowded_children(crowding),
-        ] {
-            assert_eq!(fast::check(&file), check(&file));
+    for limits in [Limits::PROGRAM, Limits::LIBRARY] {
+        for crowding in [Crowding::None, Crowding::By64, Crowding::AtTheEnd] {
+            for file in [
+                large::crowded_registers(limits, crowding),
+                large::crowded_nodes(limits, crowding),
+                large::crowded_captures(limits, crowding),
+                large::late_crowded_absence(limits, crowding),
+                large::crowded_children(limits, crowding),
+            ] {
+                assert_eq!(fast::check(&file), check(&file));
+            }
         }
     }
 }

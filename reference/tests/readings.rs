@@ -1,7 +1,7 @@
 //! Readings and the readings file.
 
 use reference::generate::{self, Random};
-use reference::{hex, isolate, isolate_with_readings_file, readings, Accepted, Refusal};
+use reference::{hex, isolate, isolate_with_readings_file, readings, Accepted, Limits, Refusal};
 
 /// Registers 9 (instances 7 and 2, type 1) and 4 (instance 0, type 2). Node 1
 /// ORs the two instances of register 9.
@@ -25,7 +25,9 @@ const UNFIT: Refusal = Refusal {
 fn answer(readings_file: &[u8], attention_type: u8) -> Result<(usize, usize), Refusal> {
     let mut list = [7; 24];
     let file = hex::decode(FILE).unwrap();
-    let answer = isolate_with_readings_file(&file, attention_type, readings_file, &mut list);
+    let limits = Limits::PROGRAM;
+    let answer =
+        isolate_with_readings_file(&file, limits, attention_type, readings_file, &mut list);
     match answer {
         Ok((2, 1)) => {
             assert_eq!(list[..8], [3, 0, 0, 1, 0, 0, 0, 0]);
@@ -161,8 +163,13 @@ fn a_readings_file_means_its_lists() {
         };
         let mut by_file = vec![7; case.room];
         let mut by_lists = vec![7; case.room];
-        let answer =
-            isolate_with_readings_file(&case.file, case.attention_type, &bytes, &mut by_file);
+        let answer = isolate_with_readings_file(
+            &case.file,
+            Limits::LIBRARY,
+            case.attention_type,
+            &bytes,
+            &mut by_file,
+        );
         match readings::decode(&tree, &bytes) {
             Ok((words, read)) => {
                 let expected = isolate(

@@ -258,7 +258,7 @@ fn the_list_is_full() {
 
     // A row in which the first instances have all bits active, one of them
     // with a child, and the next one has others.
-    let row = large::children(1, false);
+    let row = large::children(256, 1, false);
     let text = |first: usize, others: u64| {
         let word = |position| match position {
             _ if position < first => u64::MAX,

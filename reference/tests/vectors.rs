@@ -94,7 +94,7 @@ fn vectors_agree_with_the_reference() {
         }
         assert!(above_silent[&0] >= 100, "{above_silent:?}");
         assert!(above_silent[&19] >= 30, "{above_silent:?}");
-        assert!(largest > 65_536);
+        assert!(largest > 1_048_576);
     }
 }
 

@@ -11,6 +11,7 @@ use report::report;
 ghost use Prim.Native.Nat.{_≤_};
 ghost use mathlib.Core.List.{[], _∷_};
 ghost use mathlib.Core.Path.{_≡_};
+ghost use Rattle.limits.specs.Limits.{libraryLimits};
 ghost use Rattle.format.specs.Verdict.{check, address};
 ghost use Rattle.isolation.specs.Outcome.{isolate};
 ghost use Rattle.report.specs.Text.{Put};
@@ -50,8 +51,8 @@ fn put_eight(out: &mut [u64], a: u64, b: u64, c: u64, d: u64, e: u64, f: u64, g:
 // The checker: number, place, model/level, and the counts of registers, register instances, nodes, node instances and roots.
 #[no_mangle]
 pub extern "C" fn lutemarble_check(file: &[u8], out: &mut [u64]) -> u64
-    ensures number { λ r. ⌜ r ≡ check (now (file .entry)) .number ⌝ }
-    ensures answer { λ r. ⌜ now (out .exit) ≡ answered (checkList (check (now (file .entry)))) (now (out .entry)) ⌝ }
+    ensures number { λ r. ⌜ r ≡ check libraryLimits (now (file .entry)) .number ⌝ }
+    ensures answer { λ r. ⌜ now (out .exit) ≡ answered (checkList (check libraryLimits (now (file .entry)))) (now (out .entry)) ⌝ }
 {
     let c = check(file);
     match c {
@@ -81,8 +82,8 @@ pub extern "C" fn lutemarble_check(file: &[u8], out: &mut [u64]) -> u64
 // The address query: number, place, offset and size.
 #[no_mangle]
 pub extern "C" fn lutemarble_address(file: &[u8], id: u64, instance: u8, out: &mut [u64]) -> u64
-    ensures number { λ r. ⌜ r ≡ address (now (file .entry)) id instance .number ⌝ }
-    ensures answer { λ r. ⌜ now (out .exit) ≡ answered (addressList (address (now (file .entry)) id instance)) (now (out .entry)) ⌝ }
+    ensures number { λ r. ⌜ r ≡ address libraryLimits (now (file .entry)) id instance .number ⌝ }
+    ensures answer { λ r. ⌜ now (out .exit) ≡ answered (addressList (address libraryLimits (now (file .entry)) id instance)) (now (out .entry)) ⌝ }
 {
     let a = address(file, id, instance);
     match a {
@@ -109,11 +110,11 @@ pub extern "C" fn lutemarble_isolate(
     list: &mut [u8],
     out: &mut [u64],
 ) -> u64
-    ensures number { λ r. ⌜ r ≡ isolate (now (file .entry)) attention (now (words .entry)) (now (read .entry)) (now (list .entry)) .number ⌝ }
+    ensures number { λ r. ⌜ r ≡ isolate libraryLimits (now (file .entry)) attention (now (words .entry)) (now (read .entry)) (now (list .entry)) .number ⌝ }
     ensures list { λ r. ⌜ now (list .exit)
-        ≡ isolate (now (file .entry)) attention (now (words .entry)) (now (read .entry)) (now (list .entry)) .list ⌝ }
+        ≡ isolate libraryLimits (now (file .entry)) attention (now (words .entry)) (now (read .entry)) (now (list .entry)) .list ⌝ }
     ensures answer { λ r. ⌜ now (out .exit)
-        ≡ answered (isolateList (isolate (now (file .entry)) attention (now (words .entry)) (now (read .entry)) (now (list .entry)))) (now (out .entry)) ⌝ }
+        ≡ answered (isolateList (isolate libraryLimits (now (file .entry)) attention (now (words .entry)) (now (read .entry)) (now (list .entry)))) (now (out .entry)) ⌝ }
 {
     let a = isolate(file, attention, words, read, list);
     match a {

@@ -1,14 +1,9 @@
 -- The first number below n that passes a test.
-use mathlib.Core.Path.{_≡_, refl, sym, ap, _∙_}
-use mathlib.Core.Bool.{Bool, true, false, cond, _&&_}
-use mathlib.Core.Logic.{⊎-elim}
-use Prim.Native.Nat.{ℕ, zero, suc, _≤_, _<_}
+use mathlib.Core.Path.{_≡_, refl, ap}
+use mathlib.Core.Bool.{Bool, true, false, cond}
+use Prim.Native.Nat.{ℕ, zero, suc, _<_}
 use native.Mathlib.Omega.{arith}
-use lib.Dec.{ltb}
-use borrow.Author.Tests.{ltb-true, ltb-false}
-use Rattle.numbers.proofs.Bools.{either, and-both}
 use Rattle.cycles.specs.Cycle.{firstBelow, First}
-use Rattle.cycles.proofs.TestsLaws.{and-fails}
 
 pub first-at : (n : ℕ) (p : ℕ → Bool) (i : ℕ) → i < n → ((k : ℕ) → k < i → p k ≡ false) → p i ≡ true → i ≡ firstBelow n p
 unfolding firstBelow
@@ -34,19 +29,3 @@ first-law (suc n) p = go (p zero) refl (first-law n (λ i. p (suc i)))
     go : (t : Bool) → p zero ≡ t → {r : ℕ} → First n (λ i. p (suc i)) r → First (suc n) p (cond t zero (suc r))
     go true e f = record { most = omega arith; passes = λ h. e; before = λ k h. absurd (omega arith) }
     go false e f = record { most = let h = f .most in omega arith; passes = λ h. f .passes (omega arith); before = next e f }
-
--- A further test that the first number passes changes nothing.
-pub first-both : (n : ℕ) (p q : ℕ → Bool) → ((i : ℕ) → i < n → p i ≡ true → ((k : ℕ) → k < i → p k ≡ false) → q i ≡ true)
-    → firstBelow n (λ i. q i && p i) ≡ firstBelow n p
-first-both n p q f =
-    let r = firstBelow n p in
-    let l = first-law n p in
-    ⊎-elim
-    (λ t. let h : r < n = ltb-true _ _ t in
-    let e = l .passes h in
-    sym (first-at n (λ i. q i && p i) r h (λ k d. and-fails (q k) (l .before k d)) (and-both (f r h e (l .before)) e)))
-    (λ t. let h : n ≤ r = ltb-false _ _ t in
-    let m = l .most in
-    let s : n ≡ r = omega arith in
-    sym (first-none n (λ i. q i && p i) (λ k d. and-fails (q k) (l .before k (omega arith)))) ∙ s)
-    (either (ltb r n))

@@ -3,7 +3,6 @@ pub mod TestsLaws
 pub mod FirstLaws
 pub mod CycleLaws
 pub mod TableLaws
-pub mod BackLaws
 pub mod RankLaws
 pub mod Samples
 pub mod OrderLaws

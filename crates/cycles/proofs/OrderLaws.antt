@@ -20,7 +20,7 @@ use Rattle.walk.specs.TableGraph.{childAt}
 use Rattle.walk.proofs.Step.{getD-tabulate}
 use Rattle.walk.proofs.Tables.{child-in}
 use Rattle.cycles.specs.Cycle.{inCycle}
-use Rattle.cycles.specs.Ranks.{notLower, risesAt, falling}
+use Rattle.cycles.specs.Ranks.{childPasses, ranksAt}
 use Rattle.cycles.specs.Order.{notLater, notEarlier, noneIn, noneAt}
 use Rattle.cycles.proofs.TestsLaws.{any-fails}
 use Rattle.cycles.proofs.RankLaws.{no-cycle}
@@ -177,11 +177,11 @@ module _ (p : ℕ → ℕ → Bool) (ch : List ℕ) where
 
   -- Where a child that does not pass the test of its parent has a lower rank, none lies on a cycle.
   module _ (n : ℕ) (rank : ℕ → ℕ) (lower : (i c : ℕ) → i < n → c < n → p i c ≡ false → rank c < rank i) where
-    pub order-acyclic : noneAt p n ch ≡ true → (i : ℕ) → inCycle n ch i ≡ false
-    unfolding falling risesAt
-    order-acyclic e = no-cycle (tabulate n rank) n ch (rw (any-fails (n * 64) (risesAt (tabulate n rank) n ch) falls))
+    pub order-acyclic : noneAt p n ch ≡ true → (i : ℕ) → i < n → inCycle n ch i ≡ false
+    unfolding ranksAt
+    order-acyclic e i l = no-cycle (tabulate n rank) n ch (n * 64) falls (λ k h m. absurd (omega arith)) i (omega arith)
       where
-        child : (k : ℕ) → k < n * 64 → (o : Option ℕ) → o ≡ childAt n ch k → notLower (tabulate n rank) (getD (tabulate n rank) (k / 64) 0) o ≡ false
+        child : (k : ℕ) → k < n * 64 → (o : Option ℕ) → o ≡ childAt n ch k → childPasses (λ c. leb (getD (tabulate n rank) (k / 64) 0) (getD (tabulate n rank) c 0)) o ≡ false
         child k h none d = refl
         child k h (some c) d =
             let l : k / 64 < n = omega arith in
@@ -189,15 +189,15 @@ module _ (p : ℕ → ℕ → Bool) (ch : List ℕ) where
             let q : getD ch k 0 ≡ c = child-number n ch k (sym d) in
             rw (getD-tabulate n rank (k / 64) l, getD-tabulate n rank c m) (lt-leb _ _ (lower (k / 64) c l m (rw q at (all-out n e k h))))
 
-        falls : (k : ℕ) → k < n * 64 → notLower (tabulate n rank) (getD (tabulate n rank) (k / 64) 0) (childAt n ch k) ≡ false
+        falls : (k : ℕ) → k < n * 64 → childPasses (λ c. leb (getD (tabulate n rank) (k / 64) 0) (getD (tabulate n rank) c 0)) (childAt n ch k) ≡ false
         falls k h = child k h (childAt n ch k) refl
 
 -- The two orders: ranks fall by the position, or rise by it.
 
-pub forward-acyclic : (n : ℕ) (ch : List ℕ) → noneAt notLater n ch ≡ true → (i : ℕ) → inCycle n ch i ≡ false
+pub forward-acyclic : (n : ℕ) (ch : List ℕ) → noneAt notLater n ch ≡ true → (i : ℕ) → i < n → inCycle n ch i ≡ false
 unfolding notLater
 forward-acyclic n ch = order-acyclic notLater ch n (λ i. n - i) (λ i c h l e. omega (arith, leb-false c i e))
 
-pub backward-acyclic : (n : ℕ) (ch : List ℕ) → noneAt (notEarlier n) n ch ≡ true → (i : ℕ) → inCycle n ch i ≡ false
+pub backward-acyclic : (n : ℕ) (ch : List ℕ) → noneAt (notEarlier n) n ch ≡ true → (i : ℕ) → i < n → inCycle n ch i ≡ false
 unfolding notEarlier
 backward-acyclic n ch = order-acyclic (notEarlier n) ch n (λ i. i) (λ i c h l e. leb-false i c (rw (lt-ltb c n l, and-true) at e))

@@ -10,6 +10,7 @@ use lib.Dec.{eqb, ltb}
 use lib.ListN.{length, getD, take, replicate, length-replicate, getD-replicate}
 use lib.Seq.{length-take-le, getD-take}
 use borrow.Author.Tests.{lt-ltb, ltb-true, eqb-true, ne-eqb}
+use Rattle.limits.specs.Limits.{libraryLimits}
 use Rattle.numbers.specs.Bits.{bitOf, wordOf}
 use Rattle.numbers.proofs.BitsLaws.{bit-word}
 use Rattle.numbers.proofs.Bools.{clash, and-left, and-right, and-both, same-truth}
@@ -28,11 +29,11 @@ use Rattle.cycles.proofs.TestsLaws.{any-fails}
 use Rattle.cycles.proofs.FirstLaws.{first-law}
 use Rattle.cycles.proofs.CycleLaws.{cycle-closed}
 
-pub looked-few : (n : ℕ) → n ≤ 256 → lookedAt n ≡ n
+pub looked-few : (n : ℕ) → n ≤ libraryLimits .nodeInstances → lookedAt n ≡ n
 unfolding lookedAt
 looked-few n h = omega arith
 
-pub looked-most : (n : ℕ) → lookedAt n ≤ 256
+pub looked-most : (n : ℕ) → lookedAt n ≤ libraryLimits .nodeInstances
 unfolding lookedAt
 looked-most n = omega arith
 
@@ -72,8 +73,13 @@ module _ (n : ℕ) (ch : List ℕ) where
   unfolding inCycle
   in-cycle-law i = cycle-law n (tableEdge n ch) edge-inside i
 
--- Of up to 256 node instances all are looked at.
-pub first-cycle-few : (ch : List ℕ) (n : ℕ) → n ≤ 256 → firstCycle ch n ≡ firstBelow n (inCycle n ch)
+-- The first of those looked at that lies on a cycle.
+pub looked-first : (ch : List ℕ) (n : ℕ) {k r : ℕ} → k ≡ lookedAt n → r ≡ firstBelow k (inCycle k ch) → r ≡ firstCycle ch n
+unfolding firstCycle
+looked-first ch n e d = rw (← e) d
+
+-- Of up to 1,024 node instances all are looked at.
+pub first-cycle-few : (ch : List ℕ) (n : ℕ) → n ≤ libraryLimits .nodeInstances → firstCycle ch n ≡ firstBelow n (inCycle n ch)
 unfolding firstCycle
 first-cycle-few ch n h = rw (looked-few n h)
 
@@ -90,7 +96,7 @@ ones-bit b h =
     subst (λ x. bitOf 64 x b ≡ true) e (bit-word 64 (λ _. true) b h)
 
 -- A walk over n node instances all of whose bits are active.
-module _ (n : ℕ) (few : n ≤ 256) (ch act : List ℕ) (sized : length act ≡ n) (ones : (i : ℕ) → i < n → getD act i 0 ≡ 18446744073709551615) where
+module _ (n : ℕ) (few : n ≤ libraryLimits .nodeInstances) (ch act : List ℕ) (sized : length act ≡ n) (ones : (i : ℕ) → i < n → getD act i 0 ≡ 18446744073709551615) where
   size-all : tableSize act ≡ n
   unfolding tableSize
   size-all = omega arith
@@ -125,9 +131,9 @@ module _ (n : ℕ) (few : n ≤ 256) (ch act : List ℕ) (sized : length act ≡
     done-all : (j : ℕ) → j < n → eqb (getD m j 0) 2 ≡ reached n (λ x. eqb x i) (tableEdge n ch) j
     unfolding finished
     done-all j h =
-        let l : j < 256 = omega arith in
+        let l : j < libraryLimits .nodeInstances = omega arith in
         let k : i < tableGraph act ch .size = omega (arith, size-of) in
-        rw (walked, getD-tabulate 256 _ j l, lt-ltb _ _ k) (done-mark (reachedFrom (tableGraph act ch) i j) (eqb j i) ∙ reached-all i j)
+        rw (walked, getD-tabulate (libraryLimits .nodeInstances) _ j l, lt-ltb _ _ k) (done-mark (reachedFrom (tableGraph act ch) i j) (eqb j i) ∙ reached-all i j)
 
     -- A done node instance with the child i is what makes a cycle.
     pub cycle-test : any n (λ j. eqb (getD m j 0) 2 && tableEdge n ch j i) ≡ inCycle n ch i
@@ -162,10 +168,10 @@ module _ (n k x : ℕ) (h : n ≤ k) where
   part-at i l = getD-take n (replicate k x) i 0 l ∙ getD-replicate k i x 0 (let m : i < k = omega arith in m)
 
 -- The walk from i tells whether i lies on a cycle.
-pub cycle-found : (n : ℕ) (ch : List ℕ) (i : ℕ) {r : Bool} {m : List ℕ} → n ≤ 256 → i < n
-    → m ≡ finished (tableGraph (take n (replicate 256 18446744073709551615)) ch) i .marks
+pub cycle-found : (n : ℕ) (ch : List ℕ) (i : ℕ) {r : Bool} {m : List ℕ} → n ≤ libraryLimits .nodeInstances → i < n
+    → m ≡ finished (tableGraph (take n (replicate (libraryLimits .nodeInstances) 18446744073709551615)) ch) i .marks
     → r ≡ any n (λ j. eqb (getD m j 0) 2 && tableEdge n ch j i)
     → r ≡ inCycle n ch i
 cycle-found n ch i few i-in w e =
     let x : ℕ = 18446744073709551615 in
-    e ∙ cycle-test n few ch (take n (replicate 256 x)) (sym (part-length n 256 x few)) (part-at n 256 x few) i i-in w
+    e ∙ cycle-test n few ch (take n (replicate (libraryLimits .nodeInstances) x)) (sym (part-length n (libraryLimits .nodeInstances) x few)) (part-at n (libraryLimits .nodeInstances) x few) i i-in w

@@ -1,16 +1,12 @@
 -- Further laws of tests of the numbers below n.
 use mathlib.Core.Path.{_≡_, refl, sym, ap, _∙_}
-use mathlib.Core.Bool.{Bool, true, false, _&&_}
+use mathlib.Core.Bool.{Bool, false, _&&_}
 use Prim.Native.Nat.{ℕ, zero, suc, _+_, _<_}
 use native.Mathlib.Omega.{arith}
 use native.Mathlib.Numerals.{add-one}
 use lib.Dec.{eqb}
 use borrow.Author.Tests.{eq-eqb, ne-eqb}
 use Rattle.graph.specs.Below.{any}
-
-pub and-fails : (s : Bool) {t : Bool} → t ≡ false → s && t ≡ false
-and-fails true e = e
-and-fails false e = refl
 
 -- A number that is not k, and one that is.
 

@@ -4,14 +4,15 @@ use mathlib.Core.Bool.{Bool, true, false, cond, _&&_}
 use mathlib.Core.List.{List}
 use mathlib.Core.Path.{_≡_}
 use lib.Dec.{ltb, eqb}
+use Rattle.limits.specs.Limits.{libraryLimits}
 use Rattle.graph.specs.Below.{any}
 use Rattle.graph.specs.Chains.{names}
 use Rattle.graph.specs.Paths.{Reached, onCycle}
 use Rattle.walk.specs.TableGraph.{childAt}
 
--- How many of n node instances are looked at: the walk knows no more than 256.
+-- How many of n node instances are looked at: the walk knows no more than 1,024.
 unfoldable pub lookedAt : ℕ → ℕ
-lookedAt n = min n 256
+lookedAt n = min n (libraryLimits .nodeInstances)
 
 -- Some bit of the node instance i has the child j, of n node instances.
 unfoldable pub tableEdge : ℕ → List ℕ → ℕ → ℕ → Bool

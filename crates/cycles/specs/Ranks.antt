@@ -1,22 +1,16 @@
 -- Ranks of the node instances of a table of children, one number for each.
-use Prim.Native.Nat.{ℕ, _*_, _/_}
-use mathlib.Core.Bool.{Bool, false, not}
+use Prim.Native.Nat.{ℕ, _/_}
+use mathlib.Core.Bool.{Bool, false}
 use mathlib.Core.List.{List}
 use mathlib.Core.Option.{Option, none, some}
-use lib.Dec.{leb}
 use lib.ListN.{getD}
-use Rattle.graph.specs.Below.{any}
 use Rattle.walk.specs.TableGraph.{childAt}
 
--- There is a child, and its rank is not below r.
-abbrev pub notLower : List ℕ → ℕ → Option ℕ → Bool
-notLower rank r none = false
-notLower rank r (some c) = leb r (getD rank c 0)
+-- There is a child, and it passes the test.
+abbrev pub childPasses : (ℕ → Bool) → Option ℕ → Bool
+childPasses p none = false
+childPasses p (some c) = p c
 
--- The place k holds a child whose rank is not below that of the node instance k / 64, whose place it is.
-unfoldable pub risesAt : List ℕ → ℕ → List ℕ → ℕ → Bool
-risesAt rank n ch k = notLower rank (getD rank (k / 64) 0) (childAt n ch k)
-
--- Every child's rank is below its parent's, for all places of n node instances.
-unfoldable pub falling : List ℕ → ℕ → List ℕ → Bool
-falling rank n ch = not (any (n * 64) (risesAt rank n ch))
+-- The place k holds a child, and the rank of the node instance k / 64, whose place it is, and the child's rank pass the test: with leb the child's is not below, with ltb it is above.
+unfoldable pub ranksAt : (ℕ → ℕ → Bool) → List ℕ → ℕ → List ℕ → ℕ → Bool
+ranksAt p rank n ch k = childPasses (λ c. p (getD rank (k / 64) 0) (getD rank c 0)) (childAt n ch k)

@@ -2,21 +2,25 @@
 ghost use mathlib.Core.Path.{_≡_};
 ghost use mathlib.Core.Bool.{true, false, _&&_};
 ghost use Prim.Native.Nat.{ℕ, _*_, _<_, _≤_};
-ghost use lib.Dec.{eqb};
+ghost use lib.Dec.{eqb, leb, ltb};
 ghost use lib.ListN.{length, getD};
+ghost use Rattle.limits.specs.Limits.{libraryLimits};
 ghost use Rattle.graph.specs.Below.{any};
 ghost use Rattle.graph.specs.Chains.{names};
 ghost use Rattle.walk.specs.TableGraph.{childAt};
 ghost use Rattle.cycles.specs.Cycle.{lookedAt, tableEdge, inCycle, firstBelow, firstCycle};
-ghost use Rattle.cycles.specs.Back.{namesBack, namedBack, marked};
-ghost use Rattle.cycles.specs.Ranks.{risesAt, falling};
+ghost use Rattle.cycles.specs.Ranks.{ranksAt};
 ghost use Rattle.cycles.specs.Order.{notLater, notEarlier, noneIn, noneAt};
 
 // How many of n node instances are looked at.
 fn looked_at(n: usize) -> usize
     ensures { λ r. ⌜ r ≡ lookedAt n ⌝ }
 {
-    if n < 256 { n } else { 256 }
+    if n < limits::NODE_INSTANCES {
+        n
+    } else {
+        limits::NODE_INSTANCES
+    }
 }
 
 // The place k holds the child c. It looks at one place.
@@ -29,7 +33,7 @@ fn names_child(child: &[u16], n: usize, k: usize, c: usize) -> bool
 
 // Some bit of j has the child c. It looks at the 64 places of j once, up to the first that holds c.
 fn has_child(child: &[u16], n: usize, j: usize, c: usize) -> bool
-    requires { ⌜ (n ≤ 256) × (j < n) × (c < n) ⌝ }
+    requires { ⌜ (n ≤ libraryLimits .nodeInstances) × (j < n) × (c < n) ⌝ }
     ensures { λ r. ⌜ r ≡ tableEdge n (now (child .entry)) j c ⌝ }
 {
     let mut b = 0;
@@ -44,7 +48,7 @@ fn has_child(child: &[u16], n: usize, j: usize, c: usize) -> bool
 
 // The instance j is done and has the child i. It looks at one mark, and at 64 places where j is done.
 fn done_parent(m: &[u8], child: &[u16], n: usize, i: usize, j: usize) -> bool
-    requires { ⌜ (n ≤ 256) × (n ≤ length (now m)) × (i < n) × (j < n) ⌝ }
+    requires { ⌜ (n ≤ libraryLimits .nodeInstances) × (n ≤ length (now m)) × (i < n) × (j < n) ⌝ }
     ensures { λ r. ⌜ r ≡ eqb (getD (now (m .entry)) j 0) 2 && tableEdge n (now (child .entry)) j i ⌝ }
 {
     if m[j] != 2 {
@@ -55,7 +59,7 @@ fn done_parent(m: &[u8], child: &[u16], n: usize, i: usize, j: usize) -> bool
 
 // Some done instance has the child i. It looks at n marks, and at 64 places for each that is done.
 fn closes(m: &[u8], child: &[u16], n: usize, i: usize) -> bool
-    requires { ⌜ (n ≤ 256) × (n ≤ length (now m)) × (i < n) ⌝ }
+    requires { ⌜ (n ≤ libraryLimits .nodeInstances) × (n ≤ length (now m)) × (i < n) ⌝ }
     ensures { λ r. ⌜ r ≡ any n (λ j. eqb (getD (now (m .entry)) j 0) 2 && tableEdge n (now (child .entry)) j i) ⌝ }
 {
     let mut j = 0;
@@ -70,61 +74,23 @@ fn closes(m: &[u8], child: &[u16], n: usize, i: usize) -> bool
 
 // The instance i lies on a cycle. It takes one walk from i, of at most n steps, each of which looks twice at the words of waiting bits and once at 64 places; then it looks at each of the n * 64 places at most once more.
 fn on_cycle(child: &[u16], n: usize, i: usize) -> bool
-    requires { ⌜ (n ≤ 256) × (i < n) ⌝ }
+    requires { ⌜ (n ≤ libraryLimits .nodeInstances) × (i < n) ⌝ }
     ensures { λ r. ⌜ r ≡ inCycle n (now (child .entry)) i ⌝ }
 {
-    let active = [18446744073709551615u64; 256];
+    let active = [18446744073709551615u64; limits::NODE_INSTANCES];
     let w = walk::run(&active[..n], child, i);
     let m = w.marks;
     closes(&m, child, n, i)
 }
 
-// The child at the place k, if it stands at k's instance or before it, is marked. It looks at one place.
-fn mark_place(m: &mut [u8], child: &[u16], n: usize, k: usize)
-    requires { ⌜ (n ≤ 256) × (n ≤ length (now m)) ⌝ }
-    ensures { λ r. ⌜ now (m .exit) ≡ marked (now (m .entry)) (λ c. namesBack n (now (child .entry)) c k) ⌝ }
+// The first instance from `first` on that lies on a cycle, or n, where none before `first` does. It takes one walk for each instance from `first` up to the answer.
+fn first_from(child: &[u16], n: usize, first: usize) -> usize
+    requires { ⌜ (n ≤ libraryLimits .nodeInstances) × (first ≤ n) × ((k : ℕ) → k < first → inCycle n (now child) k ≡ false) ⌝ }
+    ensures { λ r. ⌜ r ≡ firstBelow n (inCycle n (now (child .entry))) ⌝ }
 {
-    let c = walk::child_at(n, child, k);
-    if n <= c {
-        return;
-    }
-    if k / 64 < c {
-        return;
-    }
-    m[c] = 1;
-}
-
-// Every instance that is its own child or that of a later one is marked. It looks at each of the n * 64 places once.
-fn mark_all(m: &mut [u8], child: &[u16], n: usize)
-    requires { ⌜ (n ≤ 256) × (n ≤ length (now m)) ⌝ }
-    ensures { λ r. ⌜ now (m .exit) ≡ marked (now (m .entry)) (namedBack n (now (child .entry)) (n * 64)) ⌝ }
-{
-    let mut k = 0;
-    while k < n * 64 {
-        mark_place(m, child, n, k);
-        k += 1;
-    }
-}
-
-// The instance i is marked and lies on a cycle. It looks at one mark, and takes one walk where i is marked.
-fn marked_cycle(m: &[u8], child: &[u16], n: usize, i: usize) -> bool
-    requires { ⌜ (n ≤ 256) × (n ≤ length (now m)) × (i < n) ⌝ }
-    ensures { λ r. ⌜ r ≡ eqb (getD (now (m .entry)) i 0) 1 && inCycle n (now (child .entry)) i ⌝ }
-{
-    if m[i] != 1 {
-        return false;
-    }
-    on_cycle(child, n, i)
-}
-
-// The first marked instance that lies on a cycle, or n. It looks at each mark once, up to that one, and takes one walk for each marked instance up to it.
-fn first_marked(m: &[u8], child: &[u16], n: usize) -> usize
-    requires { ⌜ (n ≤ 256) × (n ≤ length (now m)) ⌝ }
-    ensures { λ r. ⌜ r ≡ firstBelow n (λ i. eqb (getD (now (m .entry)) i 0) 1 && inCycle n (now (child .entry)) i) ⌝ }
-{
-    let mut i = 0;
+    let mut i = first;
     while i < n {
-        if marked_cycle(m, child, n, i) {
+        if on_cycle(child, n, i) {
             return i;
         }
         i += 1;
@@ -133,9 +99,9 @@ fn first_marked(m: &[u8], child: &[u16], n: usize) -> usize
 }
 
 // The place k holds a child whose rank is not below that of k's instance. It looks at one place and two ranks.
-fn rises(rank: &[usize], child: &[u16], n: usize, k: usize) -> bool
-    requires { ⌜ (n ≤ 256) × (n ≤ length (now rank)) × (k < n * 64) ⌝ }
-    ensures { λ r. ⌜ r ≡ risesAt (now (rank .entry)) n (now (child .entry)) k ⌝ }
+fn not_below(rank: &[usize], child: &[u16], n: usize, k: usize) -> bool
+    requires { ⌜ (n ≤ libraryLimits .nodeInstances) × (n ≤ length (now rank)) × (k < n * 64) ⌝ }
+    ensures { λ r. ⌜ r ≡ ranksAt leb (now (rank .entry)) n (now (child .entry)) k ⌝ }
 {
     let c = walk::child_at(n, child, k);
     if n <= c {
@@ -144,15 +110,43 @@ fn rises(rank: &[usize], child: &[u16], n: usize, k: usize) -> bool
     rank[k / 64] <= rank[c]
 }
 
-// Every child's rank is below its parent's. It looks at each of the n * 64 places once, up to the first whose child's is not.
-fn falls(rank: &[usize], child: &[u16], n: usize) -> bool
-    requires { ⌜ (n ≤ 256) × (n ≤ length (now rank)) ⌝ }
-    ensures { λ r. ⌜ r ≡ falling (now (rank .entry)) n (now (child .entry)) ⌝ }
+// The place k holds a child whose rank is above that of k's instance. It looks at one place and two ranks.
+fn above(rank: &[usize], child: &[u16], n: usize, k: usize) -> bool
+    requires { ⌜ (n ≤ libraryLimits .nodeInstances) × (n ≤ length (now rank)) × (k < n * 64) ⌝ }
+    ensures { λ r. ⌜ r ≡ ranksAt ltb (now (rank .entry)) n (now (child .entry)) k ⌝ }
+{
+    let c = walk::child_at(n, child, k);
+    if n <= c {
+        return false;
+    }
+    rank[k / 64] < rank[c]
+}
+
+// The first place with a child whose rank is not below its parent's, or how many places there are. It looks at each place once, up to that one.
+fn first_not_below(rank: &[usize], child: &[u16], n: usize) -> usize
+    requires { ⌜ (n ≤ libraryLimits .nodeInstances) × (n ≤ length (now rank)) ⌝ }
+    ensures { λ r. ⌜ r ≡ firstBelow (n * 64) (ranksAt leb (now (rank .entry)) n (now (child .entry))) ⌝ }
 {
     let places = n * 64;
     let mut k = 0;
     while k < places {
-        if rises(rank, child, n, k) {
+        if not_below(rank, child, n, k) {
+            return k;
+        }
+        k += 1;
+    }
+    places
+}
+
+// No place from `first` on has a child whose rank is above its parent's. It looks at each of these places once, up to the first that has one.
+fn none_above(rank: &[usize], child: &[u16], n: usize, first: usize) -> bool
+    requires { ⌜ (n ≤ libraryLimits .nodeInstances) × (n ≤ length (now rank)) ⌝ }
+    ensures { λ r. ⌜ (r ≡ true → (k : ℕ) → k < n * 64 → first ≤ k → ranksAt ltb (now (rank .entry)) n (now (child .entry)) k ≡ false) ⌝ }
+{
+    let places = n * 64;
+    let mut k = first;
+    while k < places {
+        if above(rank, child, n, k) {
             return false;
         }
         k += 1;
@@ -160,74 +154,160 @@ fn falls(rank: &[usize], child: &[u16], n: usize) -> bool
     true
 }
 
-// The search for ranks keeps a number for each instance: 512 until it comes there, then the instance that it came from, and at last the rank, which is above 512. No contract says that the ranks fall: `falls` looks, and ranks that do not only cost time.
+// The search for ranks is Tarjan's for strongly connected components: the instances of one component get one rank, and a child of another component has a rank below its parent's. The search keeps a number for each instance: UNMET until it comes there; then, while the instance is open, that of a turn: at first the instance's own, and later the least to which its children lead; and at last the rank. No contract says that the ranks are such: `cleared` looks, and ranks that are not only cost time.
 
-// c is an instance to which the search has not come.
-fn unmet(rank: &[usize], n: usize, c: usize) -> bool
+// The number of an instance to which the search has not come.
+const UNMET: usize = 0;
+
+// The turns are numbered from 1 to this: two for each instance.
+const TURNS: usize = 2 * limits::NODE_INSTANCES;
+
+// The numbers from this on are ranks.
+const RANKED: usize = TURNS + 1;
+
+// What a look at an instance's children shows: the first to which the search has not come, or n; and the least number of those before that one, or RANKED where none of them is open.
+struct Seen {
+    unmet: usize,
+    least: usize,
+}
+
+// The number of c, or RANKED where c is no instance.
+fn number(rank: &[usize], n: usize, c: usize) -> usize
     requires { ⌜ n ≤ length (now rank) ⌝ }
 {
     if n <= c {
-        return false;
+        return RANKED;
     }
-    rank[c] == 512
+    rank[c]
 }
 
-// The first child of i to which the search has not come, or n. It looks at the 64 places of i once, up to that child's.
-fn unmet_child(rank: &[usize], child: &[u16], n: usize, i: usize) -> usize
-    requires { ⌜ (n ≤ 256) × (n ≤ length (now rank)) × (i < n) ⌝ }
+// A look at the children of i. It looks at the 64 places of i once, up to that of the first child to which the search has not come.
+fn look(rank: &[usize], child: &[u16], n: usize, i: usize) -> Seen
+    requires { ⌜ (n ≤ libraryLimits .nodeInstances) × (n ≤ length (now rank)) × (i < n) ⌝ }
 {
+    let mut least = RANKED;
     let mut b = 0;
     while b < 64 {
         let c = walk::child_at(n, child, i * 64 + b);
-        if unmet(rank, n, c) {
-            return c;
+        let r = number(rank, n, c);
+        if r == UNMET {
+            return Seen { unmet: c, least };
+        }
+        if r < least {
+            least = r;
         }
         b += 1;
     }
-    n
+    Seen { unmet: n, least }
 }
 
-// The turn t of the search, at i. The next one is at a child of i to which the search has not come; where there is none, i has the rank t, and the next turn is where the search came from. An answer of n or more ends it.
-fn turn(rank: &mut [usize], child: &[u16], n: usize, i: usize, t: usize) -> usize
-    requires { ⌜ (n ≤ 256) × (n ≤ length (now rank)) × (i < n) ⌝ }
+// The search comes from i to c, whose own turn is t.
+fn meet(rank: &mut [usize], from: &mut [usize], c: usize, i: usize, t: usize)
+    requires { ⌜ (c < length (now rank)) × (c < length (now from)) ⌝ }
 {
-    let c = unmet_child(rank, child, n, i);
-    if n <= c {
-        let back = rank[i];
-        rank[i] = t;
-        return back;
+    rank[c] = t;
+    from[c] = i;
+}
+
+// The instance j gets the rank r, if it is open and its number is not below own.
+fn rank_one(rank: &mut [usize], j: usize, own: usize, r: usize)
+    requires { ⌜ j < length (now rank) ⌝ }
+{
+    let x = rank[j];
+    if x < own {
+        return;
     }
-    rank[c] = i;
-    c
+    if RANKED <= x {
+        return;
+    }
+    rank[j] = r;
 }
 
-// The search from s, if it has not come there, with turns from first on; the answer is the turn after its last. The turns of all searches are at most 512, and where there is no cycle at most two for each instance: one as a search comes to it, one as it comes back.
-fn rank_from(rank: &mut [usize], child: &[u16], n: usize, s: usize, first: usize) -> usize
-    requires { ⌜ (n ≤ 256) × (n ≤ length (now rank)) × (s < n) ⌝ }
+// The open instances whose numbers are not below own get the rank r. It looks at each number once.
+fn rank_open(rank: &mut [usize], n: usize, own: usize, r: usize)
+    requires { ⌜ n ≤ length (now rank) ⌝ }
 {
-    if rank[s] != 512 {
+    let mut j = 0;
+    while j < n {
+        rank_one(rank, j, own, r);
+        j += 1;
+    }
+}
+
+// The search leaves i at the turn t, with all its children met and the least of their numbers. Where none of them is open, i is a component by itself. Where one leads to a turn before i's own, i stays open. Otherwise i and the open instances that the search met after it are a component.
+fn leave(rank: &mut [usize], n: usize, i: usize, least: usize, t: usize)
+    requires { ⌜ (n ≤ length (now rank)) × (i < n) × (t ≤ 2 * libraryLimits .nodeInstances) ⌝ }
+{
+    let r = TURNS + t;
+    if RANKED <= least {
+        rank[i] = r;
+        return;
+    }
+    let own = rank[i];
+    if least < own {
+        rank[i] = least;
+        return;
+    }
+    rank_open(rank, n, own, r);
+}
+
+// The turn t of the search, at i. The next one is at a child of i to which the search has not come; where there is none, it is where the search came from. An answer of n or more ends it.
+fn turn(
+    rank: &mut [usize],
+    from: &mut [usize],
+    child: &[u16],
+    n: usize,
+    i: usize,
+    t: usize,
+) -> usize
+    requires { ⌜ (n ≤ libraryLimits .nodeInstances) × (n ≤ length (now rank)) × (n ≤ length (now from)) × (i < n) × (t ≤ 2 * libraryLimits .nodeInstances) ⌝ }
+{
+    let seen = look(rank, child, n, i);
+    let c = seen.unmet;
+    if c < n {
+        meet(rank, from, c, i, t + 1);
+        return c;
+    }
+    let least = seen.least;
+    leave(rank, n, i, least, t);
+    from[i]
+}
+
+// The search from s, if it has not come there, with turns from first on; the answer is the turn after its last. The turns of all searches are at most two for each instance: one that leads to it, and one that leads back from it.
+fn rank_from(
+    rank: &mut [usize],
+    from: &mut [usize],
+    child: &[u16],
+    n: usize,
+    s: usize,
+    first: usize,
+) -> usize
+    requires { ⌜ (n ≤ libraryLimits .nodeInstances) × (n ≤ length (now rank)) × (n ≤ length (now from)) × (s < n) ⌝ }
+{
+    if rank[s] != UNMET {
         return first;
     }
+    meet(rank, from, s, n, first);
     let mut t = first;
     let mut i = s;
-    while t <= 1024 {
+    while t <= TURNS {
         if n <= i {
             return t;
         }
-        i = turn(rank, child, n, i, t);
+        i = turn(rank, from, child, n, i, t);
         t += 1;
     }
     t
 }
 
-// The search from each instance in turn. It takes at most 512 turns, each of which looks at up to 64 places, and where there is no cycle at most 2 * n.
-fn rank_all(rank: &mut [usize], child: &[u16], n: usize)
-    requires { ⌜ (n ≤ 256) × (n ≤ length (now rank)) ⌝ }
+// The search from each instance in turn. It takes at most 2 * n turns, each of which looks at up to 64 places; and for each component that has a cycle it looks at n numbers.
+fn rank_all(rank: &mut [usize], from: &mut [usize], child: &[u16], n: usize)
+    requires { ⌜ (n ≤ libraryLimits .nodeInstances) × (n ≤ length (now rank)) × (n ≤ length (now from)) ⌝ }
 {
-    let mut t = 513;
+    let mut t = 1;
     let mut s = 0;
     while s < n {
-        t = rank_from(rank, child, n, s, t);
+        t = rank_from(rank, from, child, n, s, t);
         s += 1;
     }
 }
@@ -267,7 +347,7 @@ fn row_backward(row: &[u16], i: u16, n: u16) -> bool
 
 // Every child stands after its parent, and the table has the 64 places of each instance. It looks at each place once, up to the end of the first row where it is not so.
 fn all_forward(child: &[u16], n: usize) -> bool
-    requires { ⌜ n ≤ 256 ⌝ }
+    requires { ⌜ n ≤ libraryLimits .nodeInstances ⌝ }
     ensures { λ r. ⌜ r ≡ noneAt notLater n (now (child .entry)) ⌝ }
 {
     let mut i = 0;
@@ -287,7 +367,7 @@ fn all_forward(child: &[u16], n: usize) -> bool
 
 // Every child stands before its parent, and the table has the 64 places of each instance. It looks at each place once, up to the end of the first row where it is not so.
 fn all_backward(child: &[u16], n: usize) -> bool
-    requires { ⌜ n ≤ 256 ⌝ }
+    requires { ⌜ n ≤ libraryLimits .nodeInstances ⌝ }
     ensures { λ r. ⌜ r ≡ noneAt (notEarlier n) n (now (child .entry)) ⌝ }
 {
     let mut i = 0;
@@ -305,31 +385,32 @@ fn all_backward(child: &[u16], n: usize) -> bool
     true
 }
 
-// The order of the instances shows that none lies on a cycle, or else the ranks that the search finds. It looks at each of the n * 64 places at most three times, and the search at up to 64 in each of its turns.
-fn acyclic(child: &[u16], n: usize) -> bool
-    requires { ⌜ n ≤ 256 ⌝ }
-    ensures { λ r. ⌜ (r ≡ true → (i : ℕ) → inCycle n (now (child .entry)) i ≡ false) ⌝ }
+// An instance before which none lies on a cycle, or n where none does at all: the order of the instances shows it, or else the ranks that the search finds. It looks at each of the n * 64 places at most three times and at one of them once more, and the search at up to 64 in each of its turns.
+fn cleared(child: &[u16], n: usize) -> usize
+    requires { ⌜ n ≤ libraryLimits .nodeInstances ⌝ }
+    ensures { λ r. ⌜ (r ≤ n) × ((k : ℕ) → k < r → inCycle n (now (child .entry)) k ≡ false) ⌝ }
 {
     if all_forward(child, n) {
-        return true;
+        return n;
     }
     if all_backward(child, n) {
-        return true;
+        return n;
     }
-    let mut found = [512usize; 256];
-    rank_all(&mut found, child, n);
-    falls(&found, child, n)
+    let mut rank = [UNMET; limits::NODE_INSTANCES];
+    let mut from = [0usize; limits::NODE_INSTANCES];
+    rank_all(&mut rank, &mut from, child, n);
+    let k = first_not_below(&rank, child, n);
+    if !none_above(&rank, child, n, k) {
+        return 0;
+    }
+    k / 64
 }
 
-// The first instance that lies on a cycle, or how many are looked at. Where the order or ranks show that there is no cycle it takes no walk, and looks at n * 320 places at most. Where they do not it looks at each of the n * 64 places once more, and takes one walk for each instance, up to the answer, that is its own child or that of a later one.
+// The first instance that lies on a cycle, or how many are looked at. It looks at n * 320 + 1 places at most, and takes one walk for each instance from the first that is not cleared up to the answer: none where there is no cycle, and by the search's ranks one where there is.
 pub fn first_cycle(child: &[u16], n: usize) -> usize
     ensures { λ r. ⌜ r ≡ firstCycle (now (child .entry)) n ⌝ }
 {
     let few = looked_at(n);
-    if acyclic(child, few) {
-        return few;
-    }
-    let mut m = [0u8; 256];
-    mark_all(&mut m, child, few);
-    first_marked(&m, child, few)
+    let first = cleared(child, few);
+    first_from(child, few, first)
 }

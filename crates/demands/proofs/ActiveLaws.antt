@@ -13,7 +13,7 @@ use borrow.Author.Tests.{eqb-true}
 use Rattle.numbers.specs.Bits.{bitOf}
 use Rattle.numbers.proofs.Bools.{either, clash, and-left, and-right, and-both}
 use Rattle.format.specs.Finding.{childFor, childPosition}
-use Rattle.format.specs.Limits.{levels}
+use Rattle.limits.specs.Limits.{levels}
 use Rattle.format.specs.Lookup.{some, at, NodeEntry, nodeEntries, nodePosition}
 use Rattle.format.specs.Meaning.{valueWithin}
 use Rattle.format.specs.References.{Fault}

@@ -3,6 +3,7 @@ use Prim.Native.Nat.{ℕ}
 use mathlib.Core.Bool.{true}
 use mathlib.Core.List.{List, [], _∷_}
 use mathlib.Core.Path.{_≡_, _∙_, ap}
+use Rattle.limits.specs.Limits.{Limits}
 use Rattle.graph.specs.Chains.{Graph, linked}
 use Rattle.graph.specs.Paths.{Path, one, more}
 use Rattle.graph.proofs.ChainsLaws.{linked-out}
@@ -18,7 +19,7 @@ use Rattle.demands.specs.Active.{ChildOf}
 use Rattle.demands.proofs.RowsLaws.{every-in, in-at}
 use Rattle.demands.proofs.ActiveLaws.{child-words}
 
-module _ (c : Chip) (m : Meets c) (attention : ℕ) (words read : List ℕ) where
+module _ {limits : Limits} (c : Chip) (m : Meets limits c) (attention : ℕ) (words read : List ℕ) where
   abbrev g : Graph
   g = chipGraph c attention words read
 

@@ -6,6 +6,8 @@ use mathlib.Core.Path.{_≡_, refl, sym, _∙_, ap, subst}
 use native.Mathlib.Omega.{arith}
 use lib.ListN.{length, drop, length-append, length-drop}
 use borrow.Author.Tests.{leb-true}
+use Rattle.limits.specs.declared.LimitSet.{LimitSet}
+use Rattle.limits.specs.Limits.{limitsOf}
 use Rattle.format.specs.Lookup.{nodePosition}
 use Rattle.isolation.specs.ChipGraph.{chipGraph}
 use Rattle.format.proofs.NumberedLaws.{kind-some}
@@ -18,10 +20,10 @@ use Rattle.isolation.proofs.GraphsLaws.{listing-length}
 use Rattle.isolation.proofs.OutcomeLaws.{Refused, Succeeds, succeeds-in, outcome-cases}
 use Rattle.demands.specs.Demand1.{RefusedCall, Demand1, Refuses}
 
-module _ (file : List ℕ) (attention : ℕ) (words read list : List ℕ) where
-  refused-call : Refused list (isolate file attention words read list) → RefusedCall list (isolate file attention words read list)
+module _ (of : LimitSet) (file : List ℕ) (attention : ℕ) (words read list : List ℕ) where
+  refused-call : Refused list (isolate (limitsOf of) file attention words read list) → RefusedCall list (isolate (limitsOf of) file attention words read list)
   refused-call r =
-      let n : isolate file attention words read list .number ≡ r .number = ap (λ o. o .number) (r .is) in
+      let n : isolate (limitsOf of) file attention words read list .number ≡ r .number = ap (λ o. o .number) (r .is) in
       record {
         least = omega (arith, r .low);
         most = omega (arith, r .high);
@@ -30,25 +32,25 @@ module _ (file : List ℕ) (attention : ℕ) (words read list : List ℕ) where
         keeps = ap (λ o. o .list) (r .is);
       }
 
-  success-length : (s : Succeeds file attention words read list) → length (isolate file attention words read list .list) ≡ length list
+  success-length : (s : Succeeds (limitsOf of) file attention words read list) → length (isolate (limitsOf of) file attention words read list .list) ≡ length list
   unfolding recordSize chipGraph
   success-length s =
       let ls = listing (chipGraph (s .chip) attention words read) (nodePosition (s .chip) (s .root .id) (s .root .number)) in
       let rs = recordsOf (s .chip) attention ls in
       let fits : length ls ≤ length list / 8 = leb-true _ _ (s .room) in
       let eight : length rs ≡ length ls * 8 = listing-length (s .chip) attention (chipGraph (s .chip) attention words read) (nodePosition (s .chip) (s .root .id) (s .root .number)) refl in
-      let is : isolate file attention words read list .list ≡ rs ++ drop (length ls * 8) list = ap (λ o. o .list) (succeeds-in file attention words read list s) in
+      let is : isolate (limitsOf of) file attention words read list .list ≡ rs ++ drop (length ls * 8) list = ap (λ o. o .list) (succeeds-in (limitsOf of) file attention words read list s) in
       ap length is ∙ length-append rs (drop (length ls * 8) list) ∙ omega (arith, length-drop (length ls * 8) list)
 
-  pub demand1 : Demand1 file attention words read list
+  pub demand1 : Demand1 of file attention words read list
   demand1 =
       record {
-        ends = ⊎-elim (λ r. inr (refused-call r)) (λ s. inl (ap (λ o. o .number) (succeeds-in file attention words read list s))) (outcome-cases file attention words read list);
-        sized = ⊎-elim (λ r. ap (λ o. length (o .list)) (r .is)) success-length (outcome-cases file attention words read list);
+        ends = ⊎-elim (λ r. inr (refused-call r)) (λ s. inl (ap (λ o. o .number) (succeeds-in (limitsOf of) file attention words read list s))) (outcome-cases (limitsOf of) file attention words read list);
+        sized = ⊎-elim (λ r. ap (λ o. length (o .list)) (r .is)) success-length (outcome-cases (limitsOf of) file attention words read list);
       }
 
   -- What the contract of `isolation::isolate` allows keeps to it.
-  module _ (r : Isolated) (after : List ℕ) (promised : outcomeOf r after ≡ isolate file attention words read list) where
+  module _ (r : Isolated) (after : List ℕ) (promised : outcomeOf r after ≡ isolate (limitsOf of) file attention words read list) where
     done-or-refused : (r : Isolated) → (outcomeOf r after .number ≡ 0) ⊎ RefusedCall list (outcomeOf r after)
         → ((i : Isolation) × (r ≡ Isolated.Done i)) ⊎ RefusedCall list (outcomeOf r after)
     done-or-refused (Isolated.Done i) e = inl (i, refl)
@@ -58,7 +60,7 @@ module _ (file : List ℕ) (attention : ℕ) (words read list : List ℕ) where
     list-after (Isolated.Done i) = refl
     list-after (Isolated.Refused x) = refl
 
-    pub refuses : Refuses file attention words read list r after
+    pub refuses : Refuses of file attention words read list r after
     refuses =
         record {
           told = promised;

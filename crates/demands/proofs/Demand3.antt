@@ -7,12 +7,14 @@ use native.Mathlib.Omega.{arith}
 use lib.Dec.{eqb, ltb, leb}
 use lib.ListN.{length, drop}
 use borrow.Author.Tests.{eqb-true, eq-eqb, leb-true, le-leb, ltb-false, le-ltb, not-true}
+use Rattle.limits.specs.declared.LimitSet.{LimitSet}
+use Rattle.limits.specs.Limits.{Limits, limitsOf}
+use Rattle.limits.proofs.LimitsLaws.{nodes-within}
 use Rattle.numbers.specs.BigEndian.{Bytes}
 use Rattle.numbers.proofs.Bools.{and-left, and-right, and-both}
 use Rattle.graph.specs.Chains.{Graph, Sound, reachedFrom, reachedCount}
 use Rattle.graph.proofs.BelowLaws.{count-le}
 use Rattle.format.specs.Fields.{knownAttention}
-use Rattle.format.specs.Limits.{nodeLimit}
 use Rattle.format.specs.Lookup.{some, registerEntries, nodeEntries, nodePosition}
 use Rattle.format.specs.Rules.{Every, Meets}
 use Rattle.format.specs.Tree.{Root, Chip}
@@ -20,7 +22,7 @@ use Rattle.format.proofs.NumberedLaws.{kind-some}
 use Rattle.format.proofs.EveryLaws.{or-false-left, or-false-right}
 use Rattle.format.specs.Finding.{rootFor}
 use Rattle.format.proofs.FindingLaws.{first-out, first-key, root-inside}
-use Rattle.walk.specs.Marks.{finished}
+use Rattle.walk.specs.Marks.{markCount, finished}
 use Rattle.walk.proofs.StepsLaws.{step-count}
 use Rattle.walk.proofs.WalkLaws.{steps-reached}
 use Rattle.isolation.specs.ChipGraph.{chipGraph}
@@ -46,17 +48,17 @@ root-out c attention {t} e =
     let f = first-out (λ r. eqb (r .attention) attention) (c .roots) e in
     record { root = t; stands = at-in _ (c .roots) (f .0); wanted = eqb-true _ _ (f .1); means = refl }
 
-pub root-in : (c : Chip) → Meets c → (attention p : ℕ) (r : RootAt c attention p) → rootFor attention c ≡ r .root ∷ []
+pub root-in : {limits : Limits} (c : Chip) → Meets limits c → (attention p : ℕ) (r : RootAt c attention p) → rootFor attention c ≡ r .root ∷ []
 unfolding rootFor
 root-in c m attention p r =
     let k = in-at (c .roots) (r .stands) in
     first-key (λ t. t .attention) (c .roots) (m .unique .roots) (k .0) (k .1) (r .wanted)
 
-pub root-known : (c : Chip) → Meets c → (attention p : ℕ) → RootAt c attention p → knownAttention attention ≡ true
+pub root-known : {limits : Limits} (c : Chip) → Meets limits c → (attention p : ℕ) → RootAt c attention p → knownAttention attention ≡ true
 root-known c m attention p r =
     subst (λ a. knownAttention a ≡ true) (r .wanted) (every-in (λ t. knownAttention (t .attention) ≡ true) (c .roots) (m .known .roots) (r .stands))
 
-pub root-below : (c : Chip) → Meets c → (attention p : ℕ) → RootAt c attention p → p < length (nodeEntries c)
+pub root-below : {limits : Limits} (c : Chip) → Meets limits c → (attention p : ℕ) → RootAt c attention p → p < length (nodeEntries c)
 root-below c m attention p r =
     let k = in-at (c .roots) (r .stands) in
     subst (λ x. x < length (nodeEntries c)) (sym (r .means)) (root-inside c (m .present) (k .0) (k .1))
@@ -92,12 +94,12 @@ fit-in c words read f =
 
 -- The demand
 
-module _ (file : List ℕ) (bytes : Bytes file) (attention : ℕ) (words read list : List ℕ) where
-  possible-out : Succeeds file attention words read list → Possible file attention words read list
+module _ (of : LimitSet) (file : List ℕ) (bytes : Bytes file) (attention : ℕ) (words read list : List ℕ) where
+  possible-out : Succeeds (limitsOf of) file attention words read list → Possible of file attention words read list
   unfolding recordSize chipGraph
   possible-out s =
       let c = s .chip in
-      let a = accepted-out file bytes (s .accepted) in
+      let a = accepted-out of file bytes (s .accepted) in
       let g = chipGraph c attention words read in
       let sound = chip-sound c (a .meets .present) attention words read in
       let r = root-out c attention (s .rooted) in
@@ -115,7 +117,7 @@ module _ (file : List ℕ) (bytes : Bytes file) (attention : ℕ) (words read li
         room = omega arith;
       }
 
-  module _ (p : Possible file attention words read list) where
+  module _ (p : Possible of file attention words read list) where
     abbrev graph : Graph
     graph = chipGraph (p .chip) attention words read
 
@@ -126,15 +128,15 @@ module _ (file : List ℕ) (bytes : Bytes file) (attention : ℕ) (words read li
     unfolding chipGraph
     inside = root-below (p .chip) (p .accepted .meets) attention (p .root) (p .rooted)
 
-    few : graph .size ≤ 256
-    unfolding chipGraph nodeLimit
-    few = p .accepted .meets .limits .nodes
+    few : graph .size ≤ markCount
+    unfolding chipGraph
+    few = omega (arith, p .accepted .meets .within .nodes, nodes-within of)
 
     -- The bits that demand 3 names are the listing.
     bits-are : p .bits ≡ listing graph (p .root)
     bits-are = named-listing graph sound (p .root) inside (p .bits) (p .named)
 
-    possible-in : Succeeds file attention words read list
+    possible-in : Succeeds (limitsOf of) file attention words read list
     unfolding recordSize chipGraph
     possible-in =
         let c = p .chip in
@@ -146,7 +148,7 @@ module _ (file : List ℕ) (bytes : Bytes file) (attention : ℕ) (words read li
           end = length file;
           root = p .rooted .root;
           roots = [];
-          accepted = accepted-in file bytes (p .accepted);
+          accepted = accepted-in of file bytes (p .accepted);
           known = root-known c m attention (p .root) (p .rooted);
           rooted = root-in c m attention (p .root) (p .rooted);
           fit = fit-in c words read (p .fit);
@@ -154,24 +156,24 @@ module _ (file : List ℕ) (bytes : Bytes file) (attention : ℕ) (words read li
           room = subst (λ x. leb (length (listing graph x)) (length list / 8) ≡ true) (p .rooted .means) (le-leb _ _ l);
         }
 
-    outcome-is : isolate file attention words read list
+    outcome-is : isolate (limitsOf of) file attention words read list
         ≡ doneOutcome (length (p .bits)) (reachedCount graph (p .root)) (recordsOf (p .chip) attention (p .bits) ++ drop (length (p .bits) * 8) list)
     unfolding possible-in recordSize
     outcome-is =
         subst
-        (λ ls. isolate file attention words read list
+        (λ ls. isolate (limitsOf of) file attention words read list
         ≡ doneOutcome (length ls) (reachedCount graph (p .root)) (recordsOf (p .chip) attention ls ++ drop (length ls * 8) list))
         (sym bits-are)
         (subst
-        (λ x. isolate file attention words read list
+        (λ x. isolate (limitsOf of) file attention words read list
         ≡ doneOutcome (length (listing graph x)) (reachedCount graph x)
         (recordsOf (p .chip) attention (listing graph x) ++ drop (length (listing graph x) * 8) list))
-        (sym (p .rooted .means)) (succeeds-in file attention words read list possible-in))
+        (sym (p .rooted .means)) (succeeds-in (limitsOf of) file attention words read list possible-in))
 
-    answer : Answer file attention words read list p (isolate file attention words read list)
+    answer : Answer of file attention words read list p (isolate (limitsOf of) file attention words read list)
     unfolding chipGraph reachedCount
     answer =
-        let n : isolate file attention words read list .steps ≡ reachedCount graph (p .root) = ap (λ o. o .steps) outcome-is in
+        let n : isolate (limitsOf of) file attention words read list .steps ≡ reachedCount graph (p .root) = ap (λ o. o .steps) outcome-is in
         record {
           holds = ap (λ o. o .list) outcome-is;
           records = ap (λ o. o .records) outcome-is;
@@ -185,25 +187,25 @@ module _ (file : List ℕ) (bytes : Bytes file) (attention : ℕ) (words read li
           bounded = omega (arith, n, count-le (graph .size) (reachedFrom graph (p .root)));
         }
 
-  pub demand3 : Demand3 file attention words read list
+  pub demand3 : Demand3 of file attention words read list
   demand3 =
       record {
-        succeeds = (λ e. possible-out (succeeds-out file attention words read list e), λ p. ap (λ o. o .number) (outcome-is p));
+        succeeds = (λ e. possible-out (succeeds-out (limitsOf of) file attention words read list e), λ p. ap (λ o. o .number) (outcome-is p));
         answers = answer;
       }
 
   -- What the contract of `isolation::isolate` allows keeps to it.
-  module _ (r : Isolated) (after : List ℕ) (promised : outcomeOf r after ≡ isolate file attention words read list) where
+  module _ (r : Isolated) (after : List ℕ) (promised : outcomeOf r after ≡ isolate (limitsOf of) file attention words read list) where
     done-out : (r : Isolated) → outcomeOf r after .number ≡ 0 → (i : Isolation) × (r ≡ Isolated.Done i)
     done-out (Isolated.Done i) e = (i, refl)
     done-out (Isolated.Refused x) e = absurd (omega (arith, e, kind-some (x .kind)))
 
-    done-in : (i : Isolation) → r ≡ Isolated.Done i → isolate file attention words read list .number ≡ 0
+    done-in : (i : Isolation) → r ≡ Isolated.Done i → isolate (limitsOf of) file attention words read list .number ≡ 0
     done-in i e = sym (ap (λ o. o .number) promised) ∙ ap (λ x. outcomeOf x after .number) e
 
-    pub isolates : Isolates file attention words read list r after
+    pub isolates : Isolates of file attention words read list r after
     isolates =
         record {
           succeeds = (λ d. demand3 .succeeds .0 (done-in (d .0) (d .1)), λ p. done-out r (ap (λ o. o .number) (promised ∙ outcome-is p)));
-          answers = λ p. subst (Answer file attention words read list p) (sym promised) (answer p);
+          answers = λ p. subst (Answer of file attention words read list p) (sym promised) (answer p);
         }

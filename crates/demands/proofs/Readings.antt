@@ -7,13 +7,14 @@ use mathlib.Core.Path.{_≡_, refl, sym, _∙_, ap, subst}
 use lib.Dec.{leb}
 use lib.ListN.{length, drop}
 use lib.Seq.{take-at}
+use Rattle.limits.specs.declared.LimitSet.{LimitSet}
+use Rattle.limits.specs.Limits.{Limits, levels, limitsOf}
 use Rattle.numbers.specs.Bits.{bitOf}
 use Rattle.numbers.specs.BigEndian.{Bytes}
 use Rattle.graph.specs.Chains.{Graph, Sound, Link, below, reachedFrom, reachedCount}
 use Rattle.graph.proofs.ChainsLaws.{reached-by-chains}
 use Rattle.format.specs.Fields.{knownAttention}
 use Rattle.format.specs.Finding.{rootFor}
-use Rattle.format.specs.Limits.{levels}
 use Rattle.format.specs.Lookup.{at, gathered, NodeEntry, nodeEntries, nodePosition}
 use Rattle.format.specs.Meaning.{valueWithin}
 use Rattle.format.specs.Parsed.{Parsed, done, refused}
@@ -69,7 +70,7 @@ written-by c attention root list g h e d = rw (e, d)
 
 -- Two graphs of one chip
 
-module _ (c : Chip) (m : Meets c) (attention : ℕ) (words read words′ read′ : List ℕ) (alike : Alike c attention words read words′ read′) (root : ℕ)
+module _ {limits : Limits} (c : Chip) (m : Meets limits c) (attention : ℕ) (words read words′ read′ : List ℕ) (alike : Alike c attention words read words′ read′) (root : ℕ)
     (rooted : RootAt c attention root) where
   abbrev g : Graph
   g = chipGraph c attention words read
@@ -161,23 +162,23 @@ module _ (c : Chip) (m : Meets c) (attention : ℕ) (words read words′ read′
 
 -- The whole answer
 
-answers-same : (file : List ℕ) → Bytes file → (attention : ℕ) (words read words′ read′ : List ℕ)
-    → ((c : Chip) → Accepted file c → Alike c attention words read words′ read′)
-    → (list : List ℕ) → isolate file attention words read list ≡ isolate file attention words′ read′ list
+answers-same : (of : LimitSet) (file : List ℕ) → Bytes file → (attention : ℕ) (words read words′ read′ : List ℕ)
+    → ((c : Chip) → Accepted of file c → Alike c attention words read words′ read′)
+    → (list : List ℕ) → isolate (limitsOf of) file attention words read list ≡ isolate (limitsOf of) file attention words′ read′ list
 unfolding isolate isolateIn fromRoot
-answers-same file bytes attention words read words′ read′ same list = go (verdict file) refl
+answers-same of file bytes attention words read words′ read′ same list = go (verdict (limitsOf of) file) refl
   where
-    rooted : (c : Chip) → Meets c → Alike c attention words read words′ read′ → (ts : List Root) → rootFor attention c ≡ ts
+    rooted : (c : Chip) → Meets (limitsOf of) c → Alike c attention words read words′ read′ → (ts : List Root) → rootFor attention c ≡ ts
         → fromRoot c attention words read list ts ≡ fromRoot c attention words′ read′ list ts
     rooted c m a [] e = refl
     rooted c m a (t ∷ ts) e =
         rw (fit-in c words read (a .first), fit-in c words′ read′ (a .second))
         (outcome-same c m attention words read words′ read′ a (nodePosition c (t .id) (t .number)) (root-out c attention e) list)
 
-    go : (r : Parsed Chip) → verdict file ≡ r → isolateIn attention words read list r ≡ isolateIn attention words′ read′ list r
+    go : (r : Parsed Chip) → verdict (limitsOf of) file ≡ r → isolateIn attention words read list r ≡ isolateIn attention words′ read′ list r
     go (refused n p) e = refl
     go (done c end) e =
-        let a = accepted-out file bytes e in rw (rooted c (a .meets) (same c a) (rootFor attention c) refl)
+        let a = accepted-out of file bytes e in rw (rooted c (a .meets) (same c a) (rootFor attention c) refl)
 
 -- Two lists of one length
 
@@ -234,10 +235,10 @@ module _ (list list′ : List ℕ) (size : length list ≡ length list′) where
           read-answer _ _ _ (written-answer c attention (chipGraph c attention words read) (nodePosition c (t .id) (t .number)) refl)
       go false = refused-answer 17 0
 
-  room-answer : (file : List ℕ) (attention : ℕ) (words read : List ℕ)
-      → SameAnswer (isolate file attention words read list) (isolate file attention words read list′)
+  room-answer : (of : LimitSet) (file : List ℕ) (attention : ℕ) (words read : List ℕ)
+      → SameAnswer (isolate (limitsOf of) file attention words read list) (isolate (limitsOf of) file attention words read list′)
   unfolding isolate isolateIn
-  room-answer file attention words read = go (verdict file)
+  room-answer of file attention words read = go (verdict (limitsOf of) file)
     where
       known : (c : Chip) (b : Bool) → SameAnswer
           (cond b (fromRoot c attention words read list (rootFor attention c)) (refusedOutcome 15 0 list))
@@ -249,11 +250,11 @@ module _ (list list′ : List ℕ) (size : length list ≡ length list′) where
       go (refused n p) = refused-answer n p
       go (done c end) = known c (knownAttention attention)
 
-pub readings-settle : (file : List ℕ) → Bytes file → (attention : ℕ) (words read words′ read′ : List ℕ) → ReadingsSettle file attention words read words′ read′
+pub readings-settle : (of : LimitSet) (file : List ℕ) → Bytes file → (attention : ℕ) (words read words′ read′ : List ℕ) → ReadingsSettle of file attention words read words′ read′
 unfolding ReadingsSettle
-readings-settle file bytes attention words read words′ read′ alike =
-    let same = answers-same file bytes attention words read words′ read′ alike in
+readings-settle of file bytes attention words read words′ read′ alike =
+    let same = answers-same of file bytes attention words read words′ read′ alike in
     record {
       same = same;
-      room = λ list list′ e. subst (λ o. SameAnswer (isolate file attention words read list) o) (same list′) (room-answer list list′ e file attention words read);
+      room = λ list list′ e. subst (λ o. SameAnswer (isolate (limitsOf of) file attention words read list) o) (same list′) (room-answer list list′ e of file attention words read);
     }

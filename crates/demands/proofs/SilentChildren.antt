@@ -7,6 +7,8 @@ use mathlib.Core.Option.{some}
 use mathlib.Core.Path.{_≡_, refl, sym, _∙_, ap, subst}
 use native.Mathlib.Omega.{arith}
 use lib.ListN.{length}
+use Rattle.limits.specs.declared.LimitSet.{LimitSet}
+use Rattle.limits.specs.Limits.{Limits, limitsOf}
 use Rattle.numbers.specs.BigEndian.{Bytes}
 use Rattle.numbers.proofs.Bools.{either, clash}
 use Rattle.graph.specs.Chains.{Graph, Sound, link, Listed, ReachedByChains}
@@ -31,7 +33,7 @@ use Rattle.demands.proofs.AcyclicLaws.{no-way-back}
 use Rattle.demands.proofs.Demand2.{accepted-in}
 use Rattle.demands.proofs.Demand3.{root-in, root-known, fit-in, demand3}
 
-module _ (c : Chip) (m : Meets c) (attention : ℕ) (words read : List ℕ) where
+module _ {limits : Limits} (c : Chip) (m : Meets limits c) (attention : ℕ) (words read : List ℕ) where
   abbrev g : Graph
   g = chipGraph c attention words read
 
@@ -77,13 +79,13 @@ module _ (c : Chip) (m : Meets c) (attention : ℕ) (words read : List ℕ) wher
     root-reached s j h =
         ⊎-elim (λ e. e) (λ r. let t = chain-first g (r .chain) in absurd (s (t .0) (active-out root (t .0) (t .1)))) h
 
-module _ (file : List ℕ) (bytes : Bytes file) (attention : ℕ) (words read list : List ℕ) where
-  pub silent-children : (p : Possible file attention words read list) → SilentChildren file attention words read list p
+module _ (of : LimitSet) (file : List ℕ) (bytes : Bytes file) (attention : ℕ) (words read list : List ℕ) where
+  pub silent-children : (p : Possible of file attention words read list) → SilentChildren of file attention words read list p
   silent-children p =
       let c = p .chip in
       let m = p .accepted .meets in
       let g = chipGraph c attention words read in
-      let a = demand3 file bytes attention words read list .answers p in
+      let a = demand3 of file bytes attention words read list .answers p in
       let put : (i b : ℕ) → Listed g (p .root) i b → In (link i b) (p .bits) = λ i b l. p .named .exactly (link i b) .1 l in
       record {
         listed = λ i b j f s. put i b (silent-listed c m attention words read (p .root) i b j f s);
@@ -100,18 +102,18 @@ module _ (file : List ℕ) (bytes : Bytes file) (attention : ℕ) (words read li
       }
 
   -- The first unread register that a reached rule names decides.
-  module _ (c : Chip) (root : ℕ) (accepted : Accepted file c) (rooted : RootAt c attention root) (fit : ReadingsFit c words read) where
+  module _ (c : Chip) (root : ℕ) (accepted : Accepted of file c) (rooted : RootAt c attention root) (fit : ReadingsFit c words read) where
     abbrev graph : Graph
     graph = chipGraph c attention words read
 
     first-unread : (f : Fault) (fs : List Fault) → reachedUnread c attention read graph root ≡ f ∷ fs
-        → isolate file attention words read list ≡ refusedOutcome (f .number) (f .place) list
+        → isolate (limitsOf of) file attention words read list ≡ refusedOutcome (f .number) (f .place) list
     unfolding isolate isolateIn fromRoot allRead
     first-unread f fs e =
         let m = accepted .meets in
-        rw (accepted-in file bytes accepted, root-known c m attention root rooted, root-in c m attention root rooted, fit-in c words read fit, ← rooted .means, e)
+        rw (accepted-in of file bytes accepted, root-known c m attention root rooted, root-in c m attention root rooted, fit-in c words read fit, ← rooted .means, e)
 
-    unread-refused : (fs : List Fault) → reachedUnread c attention read graph root ≡ fs → (fs ≡ [] → ⊥) → UnreadRefused file attention words read list c root
+    unread-refused : (fs : List Fault) → reachedUnread c attention read graph root ≡ fs → (fs ≡ [] → ⊥) → UnreadRefused of file attention words read list c root
     unfolding chipGraph In
     unread-refused [] e n = absurd (n refl)
     unread-refused (f ∷ fs) e n =
@@ -123,7 +125,7 @@ module _ (file : List ℕ) (bytes : Bytes file) (attention : ℕ) (words read li
           refused = first-unread f fs e ∙ ap (λ x. refusedOutcome (x .number) (x .place) list) (r .3);
         }
 
-  pub unread-child-refused : UnreadChildRefused file attention words read list
+  pub unread-child-refused : UnreadChildRefused of file attention words read list
   unfolding chipGraph
   unread-child-refused c root accepted rooted fit u =
       let m = accepted .meets in

@@ -4,7 +4,7 @@ use mathlib.Core.Bool.{true}
 use mathlib.Core.List.{List, [], _∷_}
 use mathlib.Core.Path.{_≡_}
 use Rattle.numbers.specs.Bits.{bitOf}
-use Rattle.format.specs.Limits.{levels}
+use Rattle.limits.specs.Limits.{levels}
 use Rattle.format.specs.Lookup.{at, NodeEntry, nodeEntries, nodePosition}
 use Rattle.format.specs.Meaning.{valueWithin}
 use Rattle.format.specs.References.{Named, namedBy}

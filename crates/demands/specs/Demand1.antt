@@ -1,9 +1,11 @@
--- Demand 1 of the minutes, as far as it speaks of isolation's answer: over the definition of isolation, and over the answers of the code.
+-- Demand 1 of the minutes, as far as it speaks of isolation's answer: over the definition of isolation, and over the answers of the code, by either set of limits.
 use Prim.Native.Nat.{ℕ, _≤_}
 use mathlib.Core.List.{List}
 use mathlib.Core.Logic.{_⊎_}
 use mathlib.Core.Path.{_≡_}
 use lib.ListN.{length}
+use Rattle.limits.specs.declared.LimitSet.{LimitSet}
+use Rattle.limits.specs.Limits.{limitsOf}
 use Rattle.isolation.specs.declared.Isolated
 use Rattle.isolation.specs.declared.Isolated.{Isolated}
 use Rattle.isolation.specs.declared.Isolation.{Isolation}
@@ -18,12 +20,12 @@ pub record RefusedCall (list : List ℕ) (o : Outcome) : Type 0 where
   pub keeps : o .list ≡ list
 
 -- Isolation succeeds or is refused, and the list keeps its length.
-pub record Demand1 (file : List ℕ) (attention : ℕ) (words read list : List ℕ) : Type 0 where
-  pub ends : (isolate file attention words read list .number ≡ 0) ⊎ RefusedCall list (isolate file attention words read list)
-  pub sized : length (isolate file attention words read list .list) ≡ length list
+pub record Demand1 (of : LimitSet) (file : List ℕ) (attention : ℕ) (words read list : List ℕ) : Type 0 where
+  pub ends : (isolate (limitsOf of) file attention words read list .number ≡ 0) ⊎ RefusedCall list (isolate (limitsOf of) file attention words read list)
+  pub sized : length (isolate (limitsOf of) file attention words read list .list) ≡ length list
 
 -- The same of an answer of `isolation::isolate` and the list after the call; and its number and place are those of the table, in the order of the table.
-pub record Refuses (file : List ℕ) (attention : ℕ) (words read list : List ℕ) (r : Isolated) (after : List ℕ) : Type 0 where
-  pub told : outcomeOf r after ≡ isolate file attention words read list
+pub record Refuses (of : LimitSet) (file : List ℕ) (attention : ℕ) (words read list : List ℕ) (r : Isolated) (after : List ℕ) : Type 0 where
+  pub told : outcomeOf r after ≡ isolate (limitsOf of) file attention words read list
   pub ends : ((i : Isolation) × (r ≡ Isolated.Done i)) ⊎ RefusedCall list (outcomeOf r after)
   pub sized : length after ≡ length list

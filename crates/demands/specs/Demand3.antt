@@ -1,9 +1,11 @@
--- Demand 3 of the minutes, over the definition of isolation and over the answers of the code, in the words of document 01 ("The words of demand 3") and of document 02 (iii).
+-- Demand 3 of the minutes, over the definition of isolation and over the answers of the code, by either set of limits, in the words of document 01 ("The words of demand 3") and of document 02 (iii).
 use Prim.Native.Nat.{ℕ, _*_, _≤_, _<_}
 use mathlib.Core.List.{List, _++_, [], _∷_}
 use mathlib.Core.Logic.{_⊎_, _↔_}
 use mathlib.Core.Path.{_≡_}
 use lib.ListN.{length, getD, drop}
+use Rattle.limits.specs.declared.LimitSet.{LimitSet}
+use Rattle.limits.specs.Limits.{limitsOf}
 use Rattle.graph.specs.Chains.{Graph, Link, ReachedByChains, Listed}
 use Rattle.format.specs.Lookup.{at, registerEntries, registerPosition, NodeEntry, nodeEntries, nodePosition}
 use Rattle.format.specs.References.{Named, namedBy}
@@ -66,11 +68,11 @@ pub record NamedBits (g : Graph) (root : ℕ) (ls : List Link) : Type 0 where
   pub once : InOrder Different ls
   pub ordered : InOrder Before ls
 
-module _ (file : List ℕ) (attention : ℕ) (words read list : List ℕ) where
+module _ (of : LimitSet) (file : List ℕ) (attention : ℕ) (words read list : List ℕ) where
   -- "The file is accepted, the type has a root in it, the readings fit, every register that a reached rule names has a value, and the list has room."
   pub record Possible : Type 0 where
     pub chip : Chip
-    pub accepted : Accepted file chip
+    pub accepted : Accepted of file chip
     pub root : ℕ
     pub rooted : RootAt chip attention root
     pub fit : ReadingsFit chip words read
@@ -101,8 +103,8 @@ module _ (file : List ℕ) (attention : ℕ) (words read list : List ℕ) where
 
   -- "For every file, attention type, readings and list: isolation succeeds exactly when .." Success is number 0.
   pub record Demand3 : Type 0 where
-    pub succeeds : (isolate file attention words read list .number ≡ 0) ↔ Possible
-    pub answers : (p : Possible) → Answer p (isolate file attention words read list)
+    pub succeeds : (isolate (limitsOf of) file attention words read list .number ≡ 0) ↔ Possible
+    pub answers : (p : Possible) → Answer p (isolate (limitsOf of) file attention words read list)
 
   -- The same of an answer of `isolation::isolate` and the list after the call: it is `Done` exactly when isolation is possible, and then it is that answer.
   pub record Isolates (r : Isolated) (after : List ℕ) : Type 0 where

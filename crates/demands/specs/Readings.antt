@@ -1,8 +1,10 @@
--- Document 01, "What a reading may change".
+-- Document 01, "What a reading may change", by either set of limits.
 use Prim.Native.Nat.{ℕ, _*_}
 use mathlib.Core.List.{List}
 use mathlib.Core.Path.{_≡_}
 use lib.ListN.{length, take}
+use Rattle.limits.specs.declared.LimitSet.{LimitSet}
+use Rattle.limits.specs.Limits.{limitsOf}
 use Rattle.format.specs.References.{Named}
 use Rattle.format.specs.Tree.{Chip}
 use Rattle.isolation.specs.ChipGraph.{chipGraph}
@@ -32,11 +34,11 @@ pub record SameAnswer (o p : Outcome) : Type 0 where
   pub written : take (o .records * 8) (o .list) ≡ take (p .records * 8) (p .list)
 
 -- "Give the same whole answer with the same file, type and room": with one list all is the same, and with two of one length all that is not lent.
-pub record Settled (file : List ℕ) (attention : ℕ) (words read words′ read′ : List ℕ) : Type 0 where
-  pub same : (list : List ℕ) → isolate file attention words read list ≡ isolate file attention words′ read′ list
-  pub room : (list list′ : List ℕ) → length list ≡ length list′ → SameAnswer (isolate file attention words read list) (isolate file attention words′ read′ list′)
+pub record Settled (of : LimitSet) (file : List ℕ) (attention : ℕ) (words read words′ read′ : List ℕ) : Type 0 where
+  pub same : (list : List ℕ) → isolate (limitsOf of) file attention words read list ≡ isolate (limitsOf of) file attention words′ read′ list
+  pub room : (list list′ : List ℕ) → length list ≡ length list′ → SameAnswer (isolate (limitsOf of) file attention words read list) (isolate (limitsOf of) file attention words′ read′ list′)
 
 -- Two sets of readings that are alike in the tree of the file, where it is accepted, settle the answer.
-unfoldable pub ReadingsSettle : List ℕ → ℕ → List ℕ → List ℕ → List ℕ → List ℕ → Type 0
-ReadingsSettle file attention words read words′ read′ =
-    ((c : Chip) → Accepted file c → Alike c attention words read words′ read′) → Settled file attention words read words′ read′
+unfoldable pub ReadingsSettle : LimitSet → List ℕ → ℕ → List ℕ → List ℕ → List ℕ → List ℕ → Type 0
+ReadingsSettle of file attention words read words′ read′ =
+    ((c : Chip) → Accepted of file c → Alike c attention words read words′ read′) → Settled of file attention words read words′ read′

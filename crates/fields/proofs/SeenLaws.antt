@@ -95,9 +95,8 @@ module _ (table numbers : List ℕ) (v : ℕ) (h : v < length table) where
 pub tells-is : {new : ℕ → Bool} {numbers : List ℕ} → Tells new numbers → new ≡ fresh true numbers
 tells-is t = fun-ext (t .tells)
 
-pub number-told : (s : List ℕ) (at : ℕ) {new : ℕ → Bool} {numbers : List ℕ} {begun m limit l : ℕ} → Tells new numbers → begun ≡ m → limit ≡ l
-    → instanceNumberAt s new begun limit at ≡ instanceNumberAt s (fresh true numbers) m l at
-number-told s at t e g = rw (tells-is t, e, g)
+pub number-told : (s : List ℕ) (at limit : ℕ) {new : ℕ → Bool} {numbers : List ℕ} {begun m : ℕ} → Tells new numbers → begun ≡ m → instanceNumberAt s new begun limit at ≡ instanceNumberAt s (fresh true numbers) m limit at
+number-told s at limit t e = rw (tells-is t, e)
 
 -- An ID comes, and is put after those before it.
 member-end-is : (x v : ℕ) (ids : List ℕ) → member x (ids ++ (v ∷ [])) ≡ eqb x v || member x ids

@@ -8,8 +8,8 @@ use native.Mathlib.Omega.{arith}
 use lib.ListN.{length, length-take}
 use lib.Seq.{take-all, take-length}
 use borrow.Author.Tests.{leb-true, le-leb}
+use Rattle.limits.specs.Limits.{Limits}
 use Rattle.numbers.specs.BigEndian.{Bytes}
-use Rattle.format.specs.Limits.{fileLimit}
 use Rattle.format.specs.Parsed.{done}
 use Rattle.format.specs.Tree.{Chip}
 use Rattle.format.specs.FileLayout.{fileAt}
@@ -31,15 +31,15 @@ unfolding judged
 judged-out [] c end e = (refl, e)
 judged-out (f ∷ fs) c end e = never e
 
-pub record Passed (s : List ℕ) (c : Chip) (end : ℕ) : Type 0 where
-  pub short : length s ≤ fileLimit
-  pub read : fileAt s true 0 ≡ done c end
+pub record Passed (limits : Limits) (s : List ℕ) (c : Chip) (end : ℕ) : Type 0 where
+  pub short : length s ≤ limits .bytes
+  pub read : fileAt limits s true 0 ≡ done c end
   pub whole : length s ≤ end
   pub faultless : referenceFaults c ++ cycleFaults c ≡ []
 
-pub verdict-out : (s : List ℕ) {c : Chip} {end : ℕ} → verdict s ≡ done c end → Passed s c end
+pub verdict-out : (limits : Limits) (s : List ℕ) {c : Chip} {end : ℕ} → verdict limits s ≡ done c end → Passed limits s c end
 unfolding verdict
-verdict-out s {c} {end} e =
+verdict-out limits s {c} {end} e =
     let a = require-out _ _ _ _ e in
     let t = then-out _ _ (a .1) in
     let b = require-out _ _ _ _ (t .3) in
@@ -54,28 +54,28 @@ verdict-out s {c} {end} e =
       faultless = subst (λ x. referenceFaults x ++ cycleFaults x ≡ []) h (j .0);
     }
 
-pub verdict-in : (s : List ℕ) (c : Chip) (end : ℕ) → Passed s c end → verdict s ≡ done c end
+pub verdict-in : (limits : Limits) (s : List ℕ) (c : Chip) (end : ℕ) → Passed limits s c end → verdict limits s ≡ done c end
 unfolding verdict judged
-verdict-in s c end p =
+verdict-in limits s c end p =
     require-in _ _ _ _ (le-leb _ _ (p .short))
     (then-in _ _ (p .read) (require-in _ _ _ _ (le-leb _ _ (p .whole)) (rw (p .faultless))))
 
 -- An accepted file is read to its end.
-pub read-to-end : (s : List ℕ) → Bytes s → {c : Chip} {end : ℕ} → verdict s ≡ done c end → end ≡ length s
-read-to-end s bytes {c} e =
-    let p = verdict-out s e in
-    let a = file-out s bytes (p .read) .0 in
+pub read-to-end : (limits : Limits) (s : List ℕ) → Bytes s → {c : Chip} {end : ℕ} → verdict limits s ≡ done c end → end ≡ length s
+read-to-end limits s bytes {c} e =
+    let p = verdict-out limits s e in
+    let a = file-out limits s bytes (p .read) .0 in
     omega (arith, a .ends, p .whole, ap length (a .here), length-take (length (encode c)) s)
 
 -- Demand 2's "accepted", both ways.
-pub acceptance : (s : List ℕ) → Bytes s → (c : Chip) → (verdict s ≡ done c (length s)) ↔ ((s ≡ encode c) × Placed c × Meets c)
-acceptance s bytes c = (out, λ h. back (h .0) (h .1) (h .2))
+pub acceptance : (limits : Limits) (s : List ℕ) → Bytes s → (c : Chip) → (verdict limits s ≡ done c (length s)) ↔ ((s ≡ encode c) × Placed c × Meets limits c)
+acceptance limits s bytes c = (out, λ h. back (h .0) (h .1) (h .2))
   where
-    out : verdict s ≡ done c (length s) → (s ≡ encode c) × Placed c × Meets c
+    out : verdict limits s ≡ done c (length s) → (s ≡ encode c) × Placed c × Meets limits c
     out e =
-        let p = verdict-out s e in
-        let f = file-out s bytes (p .read) in
-        let l = layout-out c (f .1) in
+        let p = verdict-out limits s e in
+        let f = file-out limits s bytes (p .read) in
+        let l = layout-out limits c (f .1) in
         let q = append-none _ _ (p .faultless) in
         let r = references-out c (q .0) in
         let n : length s ≤ length (encode c) = omega (arith, f .0 .ends) in
@@ -85,11 +85,11 @@ acceptance s bytes c = (out, λ h. back (h .0) (h .1) (h .2))
           l .0,
           record {
             fields = m .fields;
-            size = subst (λ x. length x ≤ fileLimit) w (p .short);
+            size = subst (λ x. length x ≤ limits .bytes) w (p .short);
             counts = m .counts;
             known = m .known;
             unique = m .unique;
-            limits = m .limits;
+            within = m .within;
             expressions = m .expressions;
             bits = m .bits;
             present = r .0;
@@ -99,20 +99,20 @@ acceptance s bytes c = (out, λ h. back (h .0) (h .1) (h .2))
           },
         )
 
-    back : s ≡ encode c → Placed c → Meets c → verdict s ≡ done c (length s)
+    back : s ≡ encode c → Placed c → Meets limits c → verdict limits s ≡ done c (length s)
     back w p m =
-        verdict-in s c (length s)
+        verdict-in limits s c (length s)
         (record {
-          short = subst (λ x. length x ≤ fileLimit) (sym w) (m .size);
-          read = file-in s bytes c
+          short = subst (λ x. length x ≤ limits .bytes) (sym w) (m .size);
+          read = file-in limits s bytes c
               (record { here = rw (← w) (take-length s); ends = ap length w ∙ (let z : length (encode c) ≡ 0 + length (encode c) = omega arith in z) })
-              (layout-in c p
+              (layout-in limits c p
               (record {
                 fields = m .fields;
                 counts = m .counts;
                 known = m .known;
                 unique = m .unique;
-                limits = m .limits;
+                within = m .within;
                 expressions = m .expressions;
                 bits = m .bits;
               }));
@@ -121,5 +121,5 @@ acceptance s bytes c = (out, λ h. back (h .0) (h .1) (h .2))
         })
 
 -- The tree of an accepted file meets the rules.
-pub verdict-meets : (s : List ℕ) → Bytes s → {c : Chip} {end : ℕ} → verdict s ≡ done c end → Meets c
-verdict-meets s bytes {c} e = acceptance s bytes c .0 (e ∙ ap (done c) (read-to-end s bytes e)) .2
+pub verdict-meets : (limits : Limits) (s : List ℕ) → Bytes s → {c : Chip} {end : ℕ} → verdict limits s ≡ done c end → Meets limits c
+verdict-meets limits s bytes {c} e = acceptance limits s bytes c .0 (e ∙ ap (done c) (read-to-end limits s bytes e)) .2

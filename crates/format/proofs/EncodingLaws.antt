@@ -10,9 +10,10 @@ use lib.Dec.{lit<, ltb}
 use lib.Pow.{areBytes}
 use lib.ListN.{length, take, length-append}
 use lib.Seq.{take-append-seam, take-length}
+use Rattle.limits.specs.Limits.{Limits}
 use Rattle.numbers.specs.BigEndian.{bytesOf, Bytes}
 use Rattle.numbers.proofs.Bools.{and-left, and-right}
-use Rattle.format.specs.Limits.{chipdata, regs, node, root}
+use Rattle.format.specs.Keywords.{chipdata, regs, node, root}
 use Rattle.format.specs.Fields.{addressSize}
 use Rattle.format.specs.Parsed.{done}
 use Rattle.format.specs.Tree.{Expr, Exprs, reading, constant, all, any, inverse, left, right, none, more, Register, NodeInstance, Node, Root, Chip}
@@ -117,28 +118,28 @@ encode-bytes c =
     (joined _ _ (word root refl) (joined _ _ (number 1 (length (c .roots))) (row encodeRoot root-bytes (c .roots)))))))
 
 -- The encoding of a tree that meets the rules is accepted, with this tree.
-pub encoding-accepted : (c : Chip) → Placed c → Meets c → verdict (encode c) ≡ done c (length (encode c))
-encoding-accepted c p m = acceptance (encode c) (encode-bytes c) c .1 (refl, p, m)
+pub encoding-accepted : (limits : Limits) (c : Chip) → Placed c → Meets limits c → verdict limits (encode c) ≡ done c (length (encode c))
+encoding-accepted limits c p m = acceptance limits (encode c) (encode-bytes c) c .1 (refl, p, m)
 
 -- Two trees with one encoding are one.
-pub one-tree : (c d : Chip) → Placed c → Meets c → Placed d → Meets d → encode c ≡ encode d → c ≡ d
-one-tree c d pc mc pd md e =
-    let a = encoding-accepted c pc mc in
-    let b = encoding-accepted d pd md in
-    let h : done c (length (encode c)) ≡ done d (length (encode d)) = sym a ∙ ap verdict e ∙ b in
+pub one-tree : (limits : Limits) (c d : Chip) → Placed c → Meets limits c → Placed d → Meets limits d → encode c ≡ encode d → c ≡ d
+one-tree limits c d pc mc pd md e =
+    let a = encoding-accepted limits c pc mc in
+    let b = encoding-accepted limits d pd md in
+    let h : done c (length (encode c)) ≡ done d (length (encode d)) = sym a ∙ ap (verdict limits) e ∙ b in
     cc
 
 -- No accepted file is another one cut short, or one with bytes more.
-pub no-part : (s t : List ℕ) → Bytes s → Bytes (s ++ t) → {c d : Chip} {m n : ℕ} → verdict s ≡ done c m → verdict (s ++ t) ≡ done d n → t ≡ []
-no-part s t hs ht {c} {d} {m} {n} a b =
-    let p = verdict-out s a in
-    let q = verdict-out (s ++ t) b in
-    let f = file-out s hs (p .read) in
-    let w : m ≡ length s = read-to-end s hs a in
-    let v : n ≡ length (s ++ t) = read-to-end (s ++ t) ht b in
+pub no-part : (limits : Limits) (s t : List ℕ) → Bytes s → Bytes (s ++ t) → {c d : Chip} {m n : ℕ} → verdict limits s ≡ done c m → verdict limits (s ++ t) ≡ done d n → t ≡ []
+no-part limits s t hs ht {c} {d} {m} {n} a b =
+    let p = verdict-out limits s a in
+    let q = verdict-out limits (s ++ t) b in
+    let f = file-out limits s hs (p .read) in
+    let w : m ≡ length s = read-to-end limits s hs a in
+    let v : n ≡ length (s ++ t) = read-to-end limits (s ++ t) ht b in
     let x : Spell (s ++ t) 0 m (encode c) =
     record { here = longer s t (encode c) (f .0 .here) (omega (arith, f .0 .ends, w)); ends = f .0 .ends } in
-    let e : done c m ≡ done d n = sym (file-in (s ++ t) ht c x (f .1)) ∙ q .read in
+    let e : done c m ≡ done d n = sym (file-in limits (s ++ t) ht c x (f .1)) ∙ q .read in
     let u : m ≡ n = cc in
     empty t (omega (arith, length-append s t))
   where

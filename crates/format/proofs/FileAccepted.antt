@@ -7,8 +7,9 @@ use native.Mathlib.Omega.{arith}
 use lib.Dec.{lit<}
 use lib.ListN.{length}
 use borrow.Author.Tests.{eqb-true}
+use Rattle.limits.specs.Limits.{Limits}
 use Rattle.numbers.specs.BigEndian.{bytesOf, Bytes}
-use Rattle.format.specs.Limits.{chipdata, root}
+use Rattle.format.specs.Keywords.{chipdata, root}
 use Rattle.format.specs.Parsed.{done}
 use Rattle.format.specs.Fields.{knownAttention, attentionAt}
 use Rattle.format.specs.Tree.{Root, Chip}
@@ -108,16 +109,16 @@ module _ (s : List ℕ) (bytes : Bytes s) where
       (making-in _ _ (requiring-in _ _ _ _ (field-in s bytes _ 1 (lit< tt) (c .1) (lit< tt)) refl) refl))
 
 -- What reading needs of a whole file.
-pub record FileFine (c : Chip) : Type 0 where
+pub record FileFine (limits : Limits) (c : Chip) : Type 0 where
   pub model : c .model < 256 ^ 4
-  pub registers : RegistersFine (length (encodeStart (c .model))) (c .registers)
-  pub nodes : NodesFine (length (encodeStart (c .model)) + length (encodeRegisters (c .registers))) (c .nodes)
+  pub registers : RegistersFine (limits .registerInstances) (length (encodeStart (c .model))) (c .registers)
+  pub nodes : NodesFine (limits .nodeInstances) (length (encodeStart (c .model)) + length (encodeRegisters (c .registers))) (c .nodes)
   pub roots : RootsFine
       (length (encodeStart (c .model)) + length (encodeRegisters (c .registers)) + length (encodeNodes (c .nodes)))
       (c .roots)
 
-module _ (s : List ℕ) (bytes : Bytes s) where
-  pub file-out : {c : Chip} {end : ℕ} → fileAt s true 0 ≡ done c end → Spell s 0 end (encode c) × FileFine c
+module _ (limits : Limits) (s : List ℕ) (bytes : Bytes s) where
+  pub file-out : {c : Chip} {end : ℕ} → fileAt limits s true 0 ≡ done c end → Spell s 0 end (encode c) × FileFine limits c
   unfolding fileAt encode
   file-out {c} {end} e =
       let t = then-out _ _ e in
@@ -125,23 +126,23 @@ module _ (s : List ℕ) (bytes : Bytes s) where
       let v = then-out _ _ (u .3) in
       let g = making-out _ _ (v .3) in
       let m = start-out s bytes 0 (t .2) in
-      let r = registers-out s bytes (t .1) (u .2) in
-      let n = nodes-out s bytes (u .1) (v .2) in
+      let r = registers-out (limits .registerInstances) s bytes (t .1) (u .2) in
+      let n = nodes-out (limits .nodeInstances) s bytes (u .1) (v .2) in
       let q = roots-out s bytes (v .1) (g .1) in
       let wr : t .1 ≡ length (encodeStart (t .0)) = omega (arith, m .0 .ends) in
       let wn : u .1 ≡ length (encodeStart (t .0)) + length (encodeRegisters (u .0)) = omega (arith, wr, r .0 .ends) in
       let wq : v .1 ≡ length (encodeStart (t .0)) + length (encodeRegisters (u .0)) + length (encodeNodes (v .0)) = omega (arith, wn, n .0 .ends) in
-      subst (λ x. Spell s 0 end (encode x) × FileFine x) (g .2) (
+      subst (λ x. Spell s 0 end (encode x) × FileFine limits x) (g .2) (
         spell-join s (m .0) (spell-join s (r .0) (spell-join s (n .0) (q .0))),
         record {
           model = m .1;
-          registers = subst (λ p. RegistersFine p (u .0)) wr (r .1);
-          nodes = subst (λ p. NodesFine p (v .0)) wn (n .1);
+          registers = subst (λ p. RegistersFine (limits .registerInstances) p (u .0)) wr (r .1);
+          nodes = subst (λ p. NodesFine (limits .nodeInstances) p (v .0)) wn (n .1);
           roots = subst (λ p. RootsFine p (g .0)) wq (q .1);
         },
       )
 
-  pub file-in : (c : Chip) {end : ℕ} → Spell s 0 end (encode c) → FileFine c → fileAt s true 0 ≡ done c end
+  pub file-in : (c : Chip) {end : ℕ} → Spell s 0 end (encode c) → FileFine limits c → fileAt limits s true 0 ≡ done c end
   unfolding fileAt encode
   file-in c {end} a h =
       let b = spell-split s (encodeStart (c .model)) _ a in
@@ -149,9 +150,9 @@ module _ (s : List ℕ) (bytes : Bytes s) where
       let e = spell-split s (encodeNodes (c .nodes)) _ (d .1) in
       let z : length (encodeStart (c .model)) ≡ 0 + length (encodeStart (c .model)) = omega arith in
       then-in _ _ (start-in s bytes 0 (c .model) (b .0) (h .model))
-      (then-in _ _ (registers-in s bytes _ (c .registers) (d .0) (subst (λ p. RegistersFine p (c .registers)) z (h .registers)))
+      (then-in _ _ (registers-in (limits .registerInstances) s bytes _ (c .registers) (d .0) (subst (λ p. RegistersFine (limits .registerInstances) p (c .registers)) z (h .registers)))
       (then-in _ _
-      (nodes-in s bytes _ (c .nodes) (e .0) (subst (λ p. NodesFine (p + length (encodeRegisters (c .registers))) (c .nodes)) z (h .nodes)))
+      (nodes-in (limits .nodeInstances) s bytes _ (c .nodes) (e .0) (subst (λ p. NodesFine (limits .nodeInstances) (p + length (encodeRegisters (c .registers))) (c .nodes)) z (h .nodes)))
       (making-in _ _
       (roots-in s bytes _ (c .roots) (e .1)
       (subst (λ p. RootsFine (p + length (encodeRegisters (c .registers)) + length (encodeNodes (c .nodes))) (c .roots)) z (h .roots)))

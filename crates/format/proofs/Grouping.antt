@@ -3,6 +3,7 @@ use Prim.Native.Nat.{_<_}
 use mathlib.Core.List.{List, [], _∷_}
 use mathlib.Core.Path.{_≡_, refl}
 use lib.ListN.{length, length-append, length-map}
+use Rattle.limits.specs.Limits.{Limits}
 use Rattle.format.specs.Tree.{Register, Node, Chip}
 use Rattle.format.specs.Lookup.{gathered, RegisterEntry, entriesOf, registerEntries, NodeEntry, nodeEntriesOf, nodeEntries}
 use Rattle.format.specs.RegisterLayout.{registerTotal}
@@ -15,24 +16,24 @@ use Rattle.format.proofs.NodeInstancesAccepted as nodes
 use Rattle.format.proofs.FileAccepted.{FileFine}
 
 -- The rules of the layout.
-pub record LayoutMeets (c : Chip) : Type 0 where
+pub record LayoutMeets (limits : Limits) (c : Chip) : Type 0 where
   pub fields : FieldsFit c
   pub counts : CountsNotZero c
   pub known : ValuesKnown c
   pub unique : NamesUnique c
-  pub limits : WithinLimits c
+  pub within : WithinLimits limits c
   pub expressions : ExpressionsSound c
   pub bits : Every (λ k. k .bit < 64) (allChildren c)
 
 -- The rules of the layout are some of the rules.
-pub layout-of : {c : Chip} → Meets c → LayoutMeets c
-layout-of m =
+pub layout-of : (limits : Limits) {c : Chip} → Meets limits c → LayoutMeets limits c
+layout-of limits m =
     record {
       fields = m .fields;
       counts = m .counts;
       known = m .known;
       unique = m .unique;
-      limits = m .limits;
+      within = m .within;
       expressions = m .expressions;
       bits = m .bits;
     }
@@ -71,11 +72,11 @@ module _ (P : NodeEntry → Type 0) where
   unfolding nodeEntriesOf
   node-entries-out ns h = every-map _ _ (λ n k. every-list-out P _ (n .instances) k) ns (every-gathered-out P nodeEntriesOf ns h)
 
-module _ (c : Chip) where
+module _ (limits : Limits) (c : Chip) where
   abbrev Each : NodeEntry → Type 0
   Each e = nodes.InstanceAlone (e .instance)
 
-  pub layout-out : FileFine c → Placed c × LayoutMeets c
+  pub layout-out : FileFine limits c → Placed c × LayoutMeets limits c
   unfolding registerEntries nodeEntries allCaptures allRules allChildren
   layout-out f =
       let rs = f .registers in
@@ -125,13 +126,13 @@ module _ (c : Chip) where
             children = every-map _ _ (λ e k. k .bits) _ es;
             roots = ts .unique;
           };
-          limits = record { registers = rw register-count (rs .room); nodes = rw node-count (ns .room) };
+          within = record { registers = rw register-count (rs .room); nodes = rw node-count (ns .room) };
           expressions = record { counted = every-map _ _ (λ r a. a .counted) _ us; nested = every-map _ _ (λ r a. a .nested) _ us };
           bits = every-map _ _ (λ k a. a .bit) _ ks;
         },
       )
 
-  pub layout-in : Placed c → LayoutMeets c → FileFine c
+  pub layout-in : Placed c → LayoutMeets limits c → FileFine limits c
   unfolding registerEntries nodeEntries allCaptures allRules allChildren
   layout-in p m =
       let f = m .fields in
@@ -182,7 +183,7 @@ module _ (c : Chip) where
               (every-both _ _ _ (m .counts .registerInstances)
               (every-both _ _ _ (register-entries-out _ (c .registers) (f .registerInstances)) (m .unique .registerInstances))));
           unique = m .unique .registers;
-          room = rw register-count at (m .limits .registers);
+          room = rw register-count at (m .within .registers);
         };
         nodes = record {
           placed = p .nodes;
@@ -194,7 +195,7 @@ module _ (c : Chip) where
               (every-both _ _ _ (every-both _ _ _ (f .nodes) (m .known .nodes))
               (every-both _ _ _ (m .counts .nodeInstances) (every-both _ _ _ (node-entries-out Each (c .nodes) es) (m .unique .nodeInstances))));
           unique = m .unique .nodes;
-          room = rw node-count at (m .limits .nodes);
+          room = rw node-count at (m .within .nodes);
         };
         roots = record {
           placed = p .roots;

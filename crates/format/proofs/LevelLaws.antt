@@ -4,7 +4,7 @@ use mathlib.Core.Bool.{false}
 use mathlib.Core.Path.{_≡_, refl, sym, _∙_, ap}
 use native.Mathlib.Omega.{arith}
 use Rattle.numbers.specs.Bits.{wordOf, notBits, leftBits, rightBits}
-use Rattle.format.specs.Limits.{levels}
+use Rattle.limits.specs.Limits.{Limits, levels}
 use Rattle.format.specs.Meaning.{everyOperand, someOperand, bitsWithin, valueWithin}
 use Rattle.format.specs.Rules.{depth, depths, Every, allRules, Meets}
 use Rattle.format.specs.Tree.{Expr, Exprs, reading, constant, all, any, inverse, left, right, none, more, Chip}
@@ -52,9 +52,9 @@ module _ (w : ℕ) (env : ℕ → ℕ → ℕ) where
   more-levels k j e h l = ap (wordOf w) (within-bits k j e h l)
 
   -- The rules of an accepted file have enough with 16: each means what it means with any number from its own depth on.
-  pub rules-within : (c : Chip) → Meets c
+  pub rules-within : (limits : Limits) (c : Chip) → Meets limits c
       → Every (λ r. (k : ℕ) → depth (r .expression) ≤ k → valueWithin levels w env (r .expression) ≡ valueWithin k w env (r .expression)) (allRules c)
-  rules-within c m =
+  rules-within limits c m =
       every-map _ _
       (λ r h k l. sym (more-levels (depth (r .expression)) levels (r .expression) (omega arith) h) ∙ more-levels (depth (r .expression)) k (r .expression) (omega arith) l)
       (allRules c) (m .expressions .nested)

@@ -9,7 +9,6 @@ use lib.ListN.{length, length-append}
 use borrow.Author.Tests.{ltb-true, lt-ltb}
 use Rattle.numbers.specs.BigEndian.{bytesOf, Bytes}
 use Rattle.numbers.proofs.BigEndianLaws.{length-bytes}
-use Rattle.format.specs.Limits.{nodeLimit}
 use Rattle.format.specs.Parsed.{done}
 use Rattle.format.specs.Fields.{countAt, fresh}
 use Rattle.format.specs.Lookup.{gathered}
@@ -36,11 +35,11 @@ pub record InstanceAlone (i : NodeInstance) : Type 0 where
   pub children : Every ChildAlone (i .children)
   pub bits : Distinct (map (λ k. k .bit) (i .children))
 
-abbrev pub InstanceFine : ℕ → List NodeInstance → ℕ → NodeInstance → Type 0
-InstanceFine total before at i =
-    Among encodeNodeInstance PlacedNodeInstance InstanceAlone (λ x. x .number) before at i × (ltb (total + length before) nodeLimit ≡ true)
+abbrev pub InstanceFine : ℕ → ℕ → List NodeInstance → ℕ → NodeInstance → Type 0
+InstanceFine limit total before at i =
+    Among encodeNodeInstance PlacedNodeInstance InstanceAlone (λ x. x .number) before at i × (ltb (total + length before) limit ≡ true)
 
-module _ (s : List ℕ) (bytes : Bytes s) where
+module _ (limit : ℕ) (s : List ℕ) (bytes : Bytes s) where
   abbrev headBytes : ℕ → ℕ → ℕ → ℕ → List ℕ
   headBytes n c r k = bytesOf 1 n ++ (bytesOf 1 c ++ (bytesOf 1 r ++ bytesOf 1 k))
 
@@ -55,9 +54,9 @@ module _ (s : List ℕ) (bytes : Bytes s) where
     pub some : 0 < h .rules
     pub children : h .children < 256
     pub new : fresh true numbers (h .number) ≡ true
-    pub room : ltb total nodeLimit ≡ true
+    pub room : ltb total limit ≡ true
 
-  head-out : (total : ℕ) (numbers : List ℕ) (at : ℕ) {h : InstanceHead} {m : ℕ} → instanceHeadAt s true total numbers at ≡ done h m
+  head-out : (total : ℕ) (numbers : List ℕ) (at : ℕ) {h : InstanceHead} {m : ℕ} → instanceHeadAt limit s true total numbers at ≡ done h m
       → Spell s at m (headBytes (h .number) (h .captures) (h .rules) (h .children)) × HeadFine total numbers h
   unfolding instanceHeadAt countAt
   head-out total numbers at {h} {m} e =
@@ -79,7 +78,7 @@ module _ (s : List ℕ) (bytes : Bytes s) where
 
   head-in : (total : ℕ) (numbers : List ℕ) (at : ℕ) (h : InstanceHead) {m : ℕ}
       → Spell s at m (headBytes (h .number) (h .captures) (h .rules) (h .children)) → HeadFine total numbers h
-      → instanceHeadAt s true total numbers at ≡ done h m
+      → instanceHeadAt limit s true total numbers at ≡ done h m
   unfolding instanceHeadAt countAt
   head-in total numbers at h a f =
       let b = spell-split s (bytesOf 1 (h .number)) (bytesOf 1 (h .captures) ++ (bytesOf 1 (h .rules) ++ bytesOf 1 (h .children))) a in
@@ -90,7 +89,7 @@ module _ (s : List ℕ) (bytes : Bytes s) where
       (then-in _ _ (requiring-in _ _ _ _ (field-in s bytes _ 1 (lit< tt) (d .0) (f .rules)) (lt-ltb 0 (h .rules) (f .some)))
       (making-in _ _ (field-in s bytes _ 1 (lit< tt) (d .1) (f .children)) refl)))
 
-  pub instance-reads : (total : ℕ) → Reads (InstanceFine total) encodeNodeInstance s (nodeInstanceAt s true total)
+  pub instance-reads : (total : ℕ) → Reads (InstanceFine limit total) encodeNodeInstance s (nodeInstanceAt limit s true total)
   unfolding nodeInstanceAt encodeNodeInstance PlacedNodeInstance
   instance-reads total =
       record {
@@ -111,7 +110,7 @@ module _ (s : List ℕ) (bytes : Bytes s) where
             let fr = among-out encodeRule PlacedRule RuleAlone (λ x. x .attention) _ (v .0) (subst (λ p. Row RuleFine encodeRule [] p (v .0)) wr (r .2)) in
             let fk = among-out encodeChild PlacedChild ChildAlone (λ x. x .bit) _ (g .0) (subst (λ p. Row ChildFine encodeChild [] p (g .0)) wk (k .2)) in
             let f = a .1 in
-            subst (λ i. Spell s at m (encodeNodeInstance i) × InstanceFine total before at i) (g .2) (
+            subst (λ i. Spell s at m (encodeNodeInstance i) × InstanceFine limit total before at i) (g .2) (
               spell-join s
                   (subst (λ n. Spell s at (t .1) (headBytes (h .number) (length (u .0)) (length (v .0)) n)) (sym (k .1))
                   (subst (λ n. Spell s at (t .1) (headBytes (h .number) (length (u .0)) n (h .children))) (sym (r .1))

@@ -8,7 +8,7 @@ use lib.Dec.{leb, lit<}
 use borrow.Author.Tests.{ltb-true, lt-ltb, leb-true}
 use Rattle.numbers.specs.BigEndian.{bytesOf, Bytes}
 use Rattle.numbers.proofs.Bools.{and-right}
-use Rattle.format.specs.Limits.{levels}
+use Rattle.limits.specs.Limits.{levels}
 use Rattle.format.specs.Fields.{knownAttention, attentionAt}
 use Rattle.format.specs.Tree.{Capture, Rule, Child}
 use Rattle.format.specs.NodeLayout.{captureAt, ruleAt, childAt}

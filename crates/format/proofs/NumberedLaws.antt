@@ -5,6 +5,7 @@ use mathlib.Core.List.{List, [], _∷_}
 use mathlib.Core.Path.{_≡_, refl, sym}
 use lib.Dec.{leb, lit<}
 use borrow.Author.Tests.{leb-true}
+use Rattle.limits.specs.Limits.{Limits}
 use Rattle.numbers.proofs.Bools.{and-left, and-right}
 use Rattle.format.specs.declared.Kind.the-variants.{FileTooLong, FieldCut, WrongKeyword, WrongVersion, ZeroCount, UnknownValue, Duplicate, TooManyInstances, BadExpression, BitTooHigh, BytesAfterEnd, NameAbsent, RegisterUnfit, ChildCycle, BadAttentionType, NoRoot, ReadingsUnfit, RegisterUnread, NoRoom, TableTooShort}
 use Rattle.format.specs.declared.Kind.{Kind}
@@ -145,11 +146,11 @@ module _ (s : List ℕ) where
   expr-numbered zero at = then-numbered _ _ (field-numbered at 1) (λ b a. refused-numbered refl)
   expr-numbered (suc l) at = then-numbered _ _ (field-numbered at 1) (λ b a. body-numbered (exprAt s l) (expr-numbered l) at a _)
 
-  module _ (unique : Bool) where
+  module _ (limits : Limits) (unique : Bool) where
     -- Registers.
 
     register-instance-numbered : (total type : ℕ) (before : List RegisterInstance) (at : ℕ)
-        → Numbered (registerInstanceAt s unique total type before at)
+        → Numbered (registerInstanceAt (limits .registerInstances) s unique total type before at)
     unfolding registerInstanceAt
     register-instance-numbered total type before at =
         then-numbered _ _ (requiring-numbered _ 7 _ _ refl (requiring-numbered _ 8 _ _ refl (field-numbered at 1)))
@@ -161,13 +162,13 @@ module _ (s : List ℕ) where
         then-numbered _ _ (requiring-numbered _ 7 _ _ refl (field-numbered at 3))
         (λ i a. then-numbered _ _ (type-numbered a) (λ t b. then-numbered _ _ (flags-numbered b) (λ f c. making-numbered _ _ (count-numbered c 1))))
 
-    register-numbered : (before : List Register) (at : ℕ) → Numbered (registerAt s unique before at)
+    register-numbered : (before : List Register) (at : ℕ) → Numbered (registerAt (limits .registerInstances) s unique before at)
     unfolding registerAt
     register-numbered before at =
         then-numbered _ _ (register-head-numbered _ at)
         (λ h a. making-numbered _ _ (row-numbered _ (register-instance-numbered _ _) _ [] a))
 
-    registers-numbered : (at : ℕ) → Numbered (registersAt s unique at)
+    registers-numbered : (at : ℕ) → Numbered (registersAt (limits .registerInstances) s unique at)
     unfolding registersAt
     registers-numbered at =
         then-numbered _ _ (keyword-numbered at _) (λ _ a. then-numbered _ _ (count-numbered a 3) (λ n b. row-numbered _ register-numbered n [] b))
@@ -189,14 +190,14 @@ module _ (s : List ℕ) where
         then-numbered _ _ (requiring-numbered _ 7 _ _ refl (requiring-numbered _ 10 _ _ refl (field-numbered at 1)))
         (λ b a. then-numbered _ _ (field-numbered a 2) (λ i c. making-numbered _ _ (field-numbered c 1)))
 
-    instance-head-numbered : (total : ℕ) (numbers : List ℕ) (at : ℕ) → Numbered (instanceHeadAt s unique total numbers at)
+    instance-head-numbered : (total : ℕ) (numbers : List ℕ) (at : ℕ) → Numbered (instanceHeadAt (limits .nodeInstances) s unique total numbers at)
     unfolding instanceHeadAt
     instance-head-numbered total numbers at =
         then-numbered _ _ (requiring-numbered _ 7 _ _ refl (requiring-numbered _ 8 _ _ refl (field-numbered at 1)))
         (λ n a. then-numbered _ _ (field-numbered a 1)
         (λ c b. then-numbered _ _ (count-numbered b 1) (λ r d. making-numbered _ _ (field-numbered d 1))))
 
-    node-instance-numbered : (total : ℕ) (before : List NodeInstance) (at : ℕ) → Numbered (nodeInstanceAt s unique total before at)
+    node-instance-numbered : (total : ℕ) (before : List NodeInstance) (at : ℕ) → Numbered (nodeInstanceAt (limits .nodeInstances) s unique total before at)
     unfolding nodeInstanceAt
     node-instance-numbered total before at =
         then-numbered _ _ (instance-head-numbered _ _ at)
@@ -210,12 +211,12 @@ module _ (s : List ℕ) where
         then-numbered _ _ (requiring-numbered _ 7 _ _ refl (field-numbered at 2))
         (λ i a. then-numbered _ _ (type-numbered a) (λ t b. making-numbered _ _ (count-numbered b 1)))
 
-    node-numbered : (before : List Node) (at : ℕ) → Numbered (nodeAt s unique before at)
+    node-numbered : (before : List Node) (at : ℕ) → Numbered (nodeAt (limits .nodeInstances) s unique before at)
     unfolding nodeAt
     node-numbered before at =
         then-numbered _ _ (node-head-numbered _ at) (λ h a. making-numbered _ _ (row-numbered _ (node-instance-numbered _) _ [] a))
 
-    nodes-numbered : (at : ℕ) → Numbered (nodesAt s unique at)
+    nodes-numbered : (at : ℕ) → Numbered (nodesAt (limits .nodeInstances) s unique at)
     unfolding nodesAt
     nodes-numbered at =
         then-numbered _ _ (keyword-numbered at _) (λ _ a. then-numbered _ _ (count-numbered a 2) (λ n b. row-numbered _ node-numbered n [] b))
@@ -240,7 +241,7 @@ module _ (s : List ℕ) where
     roots-numbered at =
         then-numbered _ _ (keyword-numbered at _) (λ _ a. then-numbered _ _ (count-numbered a 1) (λ n b. row-numbered _ root-numbered n [] b))
 
-    file-numbered : (at : ℕ) → Numbered (fileAt s unique at)
+    file-numbered : (at : ℕ) → Numbered (fileAt limits s unique at)
     unfolding fileAt
     file-numbered at =
         then-numbered _ _ (start-numbered at)
@@ -291,14 +292,14 @@ unfolding judged Every
 judged-numbered [] c end h = done-numbered c end
 judged-numbered (f ∷ fs) c end h = refused-numbered (h .0)
 
-verdict-known : (s : List ℕ) → Numbered (verdict s)
+verdict-known : (limits : Limits) (s : List ℕ) → Numbered (verdict limits s)
 unfolding verdict cycleFaults
-verdict-known s =
+verdict-known limits s =
     require-numbered _ 1 _ _ refl
-    (then-numbered _ _ (file-numbered s true 0)
+    (then-numbered _ _ (file-numbered s limits true 0)
     (λ c end. require-numbered _ 11 _ _ refl
     (judged-numbered _ c end (every-append-in Known _ _ (references-known c) (cycles-known c 0 (nodeEntries c))))))
 
-pub verdict-numbered : (s : List ℕ) {n p : ℕ} → verdict s ≡ refused n p → (1 ≤ n) × (n ≤ 14)
-verdict-numbered s {n} {p} e =
-    let t = verdict-known s n p e in (leb-true 1 n (and-left _ _ t), leb-true n 14 (and-right (leb 1 n) _ t))
+pub verdict-numbered : (limits : Limits) (s : List ℕ) {n p : ℕ} → verdict limits s ≡ refused n p → (1 ≤ n) × (n ≤ 14)
+verdict-numbered limits s {n} {p} e =
+    let t = verdict-known limits s n p e in (leb-true 1 n (and-left _ _ t), leb-true n 14 (and-right (leb 1 n) _ t))

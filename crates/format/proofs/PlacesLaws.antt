@@ -7,7 +7,7 @@ use lib.ListN.{length, take, drop, length-append}
 use lib.Seq.{take-length}
 use Rattle.numbers.specs.BigEndian.{bytesOf, Bytes}
 use Rattle.numbers.proofs.BigEndianLaws.{length-bytes}
-use Rattle.format.specs.Limits.{levels}
+use Rattle.limits.specs.Limits.{Limits, levels}
 use Rattle.format.specs.Parsed.{done}
 use Rattle.format.specs.Fields.{addressSize}
 use Rattle.format.specs.Lookup.{gathered, entriesOf, registerEntries, nodeEntriesOf, nodeEntries}
@@ -15,7 +15,7 @@ use Rattle.format.specs.Tree.{RegisterInstance, Register, Rule, NodeInst
 use Rattle.format.specs.ExpressionLayout.{exprAt}
 use Rattle.format.specs.Verdict.{verdict}
 use Rattle.format.specs.Encoding.{encodeExpr, encodeRegisterInstance, encodeRegister, encodeCapture, encodeRule, encodeNodeInstance, encodeNode, encodeStart, encodeRegisters, encodeNodes, encode}
-use Rattle.format.specs.Limits.{regs, node}
+use Rattle.format.specs.Keywords.{regs, node}
 use Rattle.format.specs.Placing.{PlacedRow, PlacedExpr, PlacedRegisterInstance, PlacedRegister, PlacedRule, PlacedNodeInstance, PlacedNode, Placed}
 use Rattle.format.specs.Rules.{Every, allRules, Meets}
 use Rattle.format.proofs.EveryLaws.{every-map, every-both, every-gathered-in, every-list-in}
@@ -97,17 +97,17 @@ module _ (s : List ℕ) where
       (b .1 .here))
 
 -- All of an accepted file.
-module _ (s : List ℕ) (bytes : Bytes s) (c : Chip) (accepted : verdict s ≡ done c (length s)) where
+module _ (limits : Limits) (s : List ℕ) (bytes : Bytes s) (c : Chip) (accepted : verdict limits s ≡ done c (length s)) where
   whole : Spell s 0 (length s) (encode c)
   whole =
-      let w = acceptance s bytes c .0 accepted .0 in
+      let w = acceptance limits s bytes c .0 accepted .0 in
       record { here = rw (← w) (take-length s); ends = ap length w ∙ (let z : length (encode c) ≡ 0 + length (encode c) = omega arith in z) }
 
   placed : Placed c
-  placed = acceptance s bytes c .0 accepted .1
+  placed = acceptance limits s bytes c .0 accepted .1
 
-  meets : Meets c
-  meets = acceptance s bytes c .0 accepted .2
+  meets : Meets limits c
+  meets = acceptance limits s bytes c .0 accepted .2
 
   pub registers-stand : Every (Stands s PlacedRegister encodeRegister) (c .registers)
   unfolding encode encodeRegisters regs

@@ -11,7 +11,7 @@ use borrow.Author.Tests.{ltb-true, lt-ltb, eqb-true}
 use Rattle.numbers.proofs.Bools.{or-cases}
 use Rattle.numbers.specs.BigEndian.{bytesOf, Bytes}
 use Rattle.numbers.proofs.BigEndianLaws.{length-bytes}
-use Rattle.format.specs.Limits.{registerLimit, regs}
+use Rattle.format.specs.Keywords.{regs}
 use Rattle.format.specs.Parsed.{done}
 use Rattle.format.specs.Fields.{countAt, knownType, typeAt, addressSize, knownFlags, flagsAt, fresh}
 use Rattle.format.specs.Tree.{RegisterInstance, Register}
@@ -36,13 +36,13 @@ pub record InstanceAlone (type : ℕ) (i : RegisterInstance) : Type 0 where
   pub number : i .number < 256
   pub address : i .address < 256 ^ addressSize type
 
-abbrev InstanceFine : ℕ → ℕ → List RegisterInstance → ℕ → RegisterInstance → Type 0
-InstanceFine total type before at i =
+abbrev InstanceFine : ℕ → ℕ → ℕ → List RegisterInstance → ℕ → RegisterInstance → Type 0
+InstanceFine limit total type before at i =
     Among (encodeRegisterInstance type) PlacedRegisterInstance (InstanceAlone type) (λ x. x .number) before at i
-    × (ltb (total + length before) registerLimit ≡ true)
+    × (ltb (total + length before) limit ≡ true)
 
-module _ (s : List ℕ) (bytes : Bytes s) where
-  instance-reads : (total type : ℕ) → Reads (InstanceFine total type) (encodeRegisterInstance type) s (registerInstanceAt s true total type)
+module _ (limit : ℕ) (s : List ℕ) (bytes : Bytes s) where
+  instance-reads : (total type : ℕ) → Reads (InstanceFine limit total type) (encodeRegisterInstance type) s (registerInstanceAt limit s true total type)
   unfolding registerInstanceAt encodeRegisterInstance PlacedRegisterInstance
   instance-reads total type =
       record {
@@ -53,7 +53,7 @@ module _ (s : List ℕ) (bytes : Bytes s) where
             let g = making-out _ _ (t .3) in
             let n = field-out s bytes at 1 (r .0) in
             let a = field-out s bytes (t .1) (addressSize type) (g .1) in
-            subst (λ i. Spell s at m (encodeRegisterInstance type i) × InstanceFine total type before at i) (g .2)
+            subst (λ i. Spell s at m (encodeRegisterInstance type i) × InstanceFine limit total type before at i) (g .2)
             (spell-join s (n .0) (a .0), (record { placed = one-more s _ (n .0); alone = record { number = n .1; address = a .1 }; new = q .1 }, r .1));
         complete = λ before at {x} {m} a h.
             let b = spell-split s (bytesOf 1 (x .number)) (bytesOf (addressSize type) (x .address)) a in
@@ -64,26 +64,26 @@ module _ (s : List ℕ) (bytes : Bytes s) where
       }
 
 -- What reading needs of the instances of a register.
-pub record InstancesFine (total type at : ℕ) (is : List RegisterInstance) : Type 0 where
+pub record InstancesFine (limit total type at : ℕ) (is : List RegisterInstance) : Type 0 where
   pub placed : PlacedRow PlacedRegisterInstance (encodeRegisterInstance type) at is
   pub each : Every (InstanceAlone type) is
   pub unique : Distinct (map (λ i. i .number) is)
-  pub room : total + length is ≤ registerLimit
+  pub room : total + length is ≤ limit
 
-module _ (total type at : ℕ) (is : List RegisterInstance) where
+module _ (limit total type at : ℕ) (is : List RegisterInstance) where
   abbrev enc : RegisterInstance → List ℕ
   enc = encodeRegisterInstance type
 
-  instances-out : 0 < length is → Row (InstanceFine total type) enc [] at is → InstancesFine total type at is
+  instances-out : 0 < length is → Row (InstanceFine limit total type) enc [] at is → InstancesFine limit total type at is
   instances-out z r =
       let a = among-out enc PlacedRegisterInstance (InstanceAlone type) (λ i. i .number) at is (row-map enc _ _ (λ b a x h. h .0) [] at is r) in
-      let l = limit-out enc total registerLimit [] at is z (row-map enc (InstanceFine total type) _ (λ b a x h. h .1) [] at is r) in
+      let l = limit-out enc total limit [] at is z (row-map enc (InstanceFine limit total type) _ (λ b a x h. h .1) [] at is r) in
       record { placed = a .0; each = a .1; unique = a .2; room = omega (arith, l) }
 
-  instances-in : InstancesFine total type at is → Row (InstanceFine total type) enc [] at is
+  instances-in : InstancesFine limit total type at is → Row (InstanceFine limit total type) enc [] at is
   instances-in h =
       row-both enc _ _ [] at is (among-in enc PlacedRegisterInstance (InstanceAlone type) (λ i. i .number) at is (h .placed) (h .each) (h .unique))
-      (limit-in enc total registerLimit [] at is (let l : total + 0 + length is ≤ registerLimit = omega (arith, h .room) in l))
+      (limit-in enc total limit [] at is (let l : total + 0 + length is ≤ limit = omega (arith, h .room) in l))
 
 -- What reading needs of a register alone, and among the others.
 pub record RegisterAlone (r : Register) : Type 0 where
@@ -96,16 +96,16 @@ pub record RegisterAlone (r : Register) : Type 0 where
   pub each : Every (InstanceAlone (r .type)) (r .instances)
   pub unique : Distinct (map (λ i. i .number) (r .instances))
 
-abbrev RegisterFine : List Register → ℕ → Register → Type 0
-RegisterFine before at r =
-    Among encodeRegister PlacedRegister RegisterAlone (λ x. x .id) before at r × (registerTotal before + length (r .instances) ≤ registerLimit)
+abbrev RegisterFine : ℕ → List Register → ℕ → Register → Type 0
+RegisterFine limit before at r =
+    Among encodeRegister PlacedRegister RegisterAlone (λ x. x .id) before at r × (registerTotal before + length (r .instances) ≤ limit)
 
 pub known-small : (t : ℕ) → knownType t ≡ true → t < 256
 unfolding knownType
 known-small t e =
     ⊎-elim (λ h. omega (arith, eqb-true t 1 h)) (λ h. omega (arith, eqb-true t 2 h)) (or-cases (eqb t 1) (eqb t 2) e)
 
-module _ (s : List ℕ) (bytes : Bytes s) where
+module _ (limit : ℕ) (s : List ℕ) (bytes : Bytes s) where
   abbrev headBytes : ℕ → ℕ → ℕ → ℕ → List ℕ
   headBytes i t f n = bytesOf 3 i ++ (bytesOf 1 t ++ (bytesOf 1 f ++ bytesOf 1 n))
 
@@ -150,7 +150,7 @@ module _ (s : List ℕ) (bytes : Bytes s) where
       (then-in _ _ (requiring-in _ _ _ _ (field-in s bytes _ 1 (lit< tt) (d .0) hf) hk)
       (making-in _ _ (requiring-in _ _ _ _ (field-in s bytes _ 1 (lit< tt) (d .1) hn) (lt-ltb 0 n hz)) refl)))
 
-  register-reads : Reads RegisterFine encodeRegister s (registerAt s true)
+  register-reads : Reads (RegisterFine limit) encodeRegister s (registerAt limit s true)
   unfolding registerAt encodeRegister PlacedRegister
   register-reads =
       record {
@@ -160,11 +160,11 @@ module _ (s : List ℕ) (bytes : Bytes s) where
             let h = t .0 in
             let is = g .0 in
             let a = head-out _ at (t .2) in
-            let r = row-out _ _ s _ (instance-reads s bytes (registerTotal before) (h .type)) (h .count) [] (t .1) (g .1) in
+            let r = row-out _ _ s _ (instance-reads limit s bytes (registerTotal before) (h .type)) (h .count) [] (t .1) (g .1) in
             let z : 0 < length is = omega (arith, r .1, a .6) in
             let w : t .1 ≡ at + 6 = omega (arith, a .0 .ends, head-length (h .id) (h .type) (h .flags) (h .count)) in
-            let f = instances-out (registerTotal before) (h .type) (t .1) is z (r .2) in
-            subst (λ x. Spell s at m (encodeRegister x) × RegisterFine before at x) (g .2) (
+            let f = instances-out limit (registerTotal before) (h .type) (t .1) is z (r .2) in
+            subst (λ x. Spell s at m (encodeRegister x) × RegisterFine limit before at x) (g .2) (
               spell-join s (subst (λ k. Spell s at (t .1) (headBytes (h .id) (h .type) (h .flags) k)) (sym (r .1)) (a .0)) (r .0),
               (
                 record {
@@ -191,8 +191,8 @@ module _ (s : List ℕ) (bytes : Bytes s) where
             omega (arith, head-length (x .id) (x .type) (x .flags) (length (x .instances))) in
             then-in _ _ (head-in _ at _ _ _ _ (b .0) (k .id) (k .type) (k .flags) (k .known) (k .count) (k .some) (h .0 .new))
             (making-in _ _
-            (row-in _ _ s _ (instance-reads s bytes (registerTotal before) (x .type)) [] _ (x .instances) (b .1)
-            (instances-in (registerTotal before) (x .type) _ (x .instances)
+            (row-in _ _ s _ (instance-reads limit s bytes (registerTotal before) (x .type)) [] _ (x .instances) (b .1)
+            (instances-in limit (registerTotal before) (x .type) _ (x .instances)
             (record {
               placed = subst (λ p. PlacedRow PlacedRegisterInstance (encodeRegisterInstance (x .type)) p (x .instances)) w (h .0 .placed);
               each = k .each;
@@ -203,13 +203,13 @@ module _ (s : List ℕ) (bytes : Bytes s) where
       }
 
 -- What reading needs of the registers of a file.
-pub record RegistersFine (at : ℕ) (rs : List Register) : Type 0 where
+pub record RegistersFine (limit at : ℕ) (rs : List Register) : Type 0 where
   pub placed : PlacedRow PlacedRegister encodeRegister (at + 7) rs
   pub count : length rs < 256 ^ 3
   pub some : 0 < length rs
   pub each : Every RegisterAlone rs
   pub unique : Distinct (map (λ r. r .id) rs)
-  pub room : registerTotal rs ≤ registerLimit
+  pub room : registerTotal rs ≤ limit
 
 pub registers-none : registerTotal [] ≡ 0
 unfolding registerTotal
@@ -219,24 +219,24 @@ pub registers-more : (r : Register) (rs : List Register) → registerTotal (r �
 unfolding registerTotal
 registers-more r rs = refl
 
-module _ (s : List ℕ) (bytes : Bytes s) (at : ℕ) where
-  pub registers-out : {rs : List Register} {m : ℕ} → registersAt s true at ≡ done rs m → Spell s at m (encodeRegisters rs) × RegistersFine at rs
+module _ (limit : ℕ) (s : List ℕ) (bytes : Bytes s) (at : ℕ) where
+  pub registers-out : {rs : List Register} {m : ℕ} → registersAt limit s true at ≡ done rs m → Spell s at m (encodeRegisters rs) × RegistersFine limit at rs
   unfolding registersAt encodeRegisters regs
   registers-out {rs} e =
-      let t = section-out s bytes RegisterFine encodeRegister (registerAt s true) (register-reads s bytes) regs 3 at e in
-      let r : Row RegisterFine encodeRegister [] (at + 7) rs = subst (λ p. Row RegisterFine encodeRegister [] p rs) (omega arith) (t .3) in
+      let t = section-out s bytes (RegisterFine limit) encodeRegister (registerAt limit s true) (register-reads limit s bytes) regs 3 at e in
+      let r : Row (RegisterFine limit) encodeRegister [] (at + 7) rs = subst (λ p. Row (RegisterFine limit) encodeRegister [] p rs) (omega arith) (t .3) in
       let a = among-out encodeRegister PlacedRegister RegisterAlone (λ x. x .id) (at + 7) rs (row-map encodeRegister _ _ (λ b a x h. h .0) [] (at + 7) rs r) in
       let l =
-      total-out encodeRegister (λ x. length (x .instances)) registerTotal registers-none registers-more registerLimit [] (at + 7) rs (t .1)
-      (row-map encodeRegister RegisterFine _ (λ b a x h. h .1) [] (at + 7) rs r) in
+      total-out encodeRegister (λ x. length (x .instances)) registerTotal registers-none registers-more limit [] (at + 7) rs (t .1)
+      (row-map encodeRegister (RegisterFine limit) _ (λ b a x h. h .1) [] (at + 7) rs r) in
       (t .0, record { placed = a .0; count = t .2; some = t .1; each = a .1; unique = a .2; room = omega (arith, registers-none, l) })
 
-  pub registers-in : (rs : List Register) {m : ℕ} → Spell s at m (encodeRegisters rs) → RegistersFine at rs → registersAt s true at ≡ done rs m
+  pub registers-in : (rs : List Register) {m : ℕ} → Spell s at m (encodeRegisters rs) → RegistersFine limit at rs → registersAt limit s true at ≡ done rs m
   unfolding registersAt encodeRegisters regs
   registers-in rs a h =
-      section-in s bytes RegisterFine encodeRegister (registerAt s true) (register-reads s bytes) regs 3 (lit< tt) (lit< tt) at rs a (h .some) (h .count)
-      (subst (λ p. Row RegisterFine encodeRegister [] p rs) (omega arith)
+      section-in s bytes (RegisterFine limit) encodeRegister (registerAt limit s true) (register-reads limit s bytes) regs 3 (lit< tt) (lit< tt) at rs a (h .some) (h .count)
+      (subst (λ p. Row (RegisterFine limit) encodeRegister [] p rs) (omega arith)
       (row-both encodeRegister _ _ [] (at + 7) rs
       (among-in encodeRegister PlacedRegister RegisterAlone (λ x. x .id) (at + 7) rs (h .placed) (h .each) (h .unique))
-      (total-in encodeRegister (λ x. length (x .instances)) registerTotal registers-none registers-more registerLimit [] (at + 7) rs
-      (let l : registerTotal [] + registerTotal rs ≤ registerLimit = omega (arith, registers-none, h .room) in l))))
+      (total-in encodeRegister (λ x. length (x .instances)) registerTotal registers-none registers-more limit [] (at + 7) rs
+      (let l : registerTotal [] + registerTotal rs ≤ limit = omega (arith, registers-none, h .room) in l))))

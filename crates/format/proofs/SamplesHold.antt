@@ -4,7 +4,8 @@ use Rattle.format.specs.Cycles.{leads, childEdge, cyclesFrom, cycleFault
 use Rattle.format.specs.ExpressionLayout.{operationOf, readingAt, operandsAt, shiftedAt, bodyAt, exprAt}
 use Rattle.format.specs.Fields.{fieldAt, same, keywordAt, countAt, knownType, typeAt, addressSize, knownFlags, flagsAt, readable, knownAttention, attentionAt, member, fresh}
 use Rattle.format.specs.FileLayout.{startAt, rootAt, rootsAt, fileAt}
-use Rattle.format.specs.Limits.{fileLimit, registerLimit, nodeLimit, levels, chipdata, regs, node, root}
+use Rattle.limits.specs.Limits.{levels}
+use Rattle.format.specs.Keywords.{chipdata, regs, node, root}
 use Rattle.format.specs.Lookup.{some, position, at, gathered, entriesOf, registerEntries, registerNamed, nodeEntriesOf, nodeEntries, nodeNamed, registerPosition, nodePosition}
 use Rattle.format.specs.Meaning.{bitsWithin, valueWithin}
 use Rattle.format.specs.NodeLayout.{captureAt, ruleAt, childAt, instanceHeadAt, nodeInstanceAt, nodeTotal, nodeHeadAt, nodeAt, nodesAt}
@@ -21,5 +22,6 @@ use Rattle.numbers.specs.Bits.{bitOf, wordOf, notBits}
 use Rattle.numbers.specs.Field.{present, field}
 
 pub samples-hold : AllHold samples
-unfolding fileLimit registerLimit nodeLimit levels chipdata regs node root andThen making require requiring rowAt fieldAt same keywordAt countAt knownType typeAt addressSize knownFlags flagsAt readable knownAttention attentionAt member fresh operationOf readingAt operandsAt shiftedAt bodyAt exprAt registerTotal registerInstanceAt registerHeadAt registerAt registersAt captureAt ruleAt childAt instanceHeadAt nodeInstanceAt nodeTotal nodeHeadAt nodeAt nodesAt startAt rootAt rootsAt fileAt some position at gathered entriesOf registerEntries registerNamed nodeEntriesOf nodeEntries nodeNamed registerPosition nodePosition gather namedBy unless fits hasRegister hasRegisterThat registerFaults hasNode captureFaults namedFaults ruleFaults childFaults instanceFaults hasRule rootFaults referenceFaults leads childEdge cyclesFrom cycleFaults judged verdict checkOf check bitsWithin valueWithin b1 selfChild capturing present field bigEndian bitOf wordOf notBits reachedIn reached onCycle any
-samples-hold = (refl, (refl, (refl, (refl, (refl, (refl, (refl, (refl, (refl, tt)))))))))
+unfolding levels chipdata regs node root andThen making require requiring rowAt fieldAt same keywordAt countAt knownType typeAt addressSize knownFlags flagsAt readable knownAttention attentionAt member fresh operationOf readingAt operandsAt shiftedAt bodyAt exprAt registerTotal registerInstanceAt registerHeadAt registerAt registersAt captureAt ruleAt childAt instanceHeadAt nodeInstanceAt nodeTotal nodeHeadAt nodeAt nodesAt startAt rootAt rootsAt fileAt some position at gathered entriesOf registerEntries registerNamed nodeEntriesOf nodeEntries nodeNamed registerPosition nodePosition gather namedBy unless fits hasRegister hasRegisterThat registerFaults hasNode captureFaults namedFaults ruleFaults childFaults instanceFaults hasRule rootFaults referenceFaults leads childEdge cyclesFrom cycleFaults judged verdict checkOf check bitsWithin valueWithin b1 selfChild capturing present field bigEndian bitOf wordOf notBits reachedIn reached onCycle any
+samples-hold =
+    ((refl, refl), ((refl, refl), ((refl, refl), ((refl, refl), ((refl, refl), ((refl, refl), ((refl, refl), ((refl, refl), (refl, tt)))))))))

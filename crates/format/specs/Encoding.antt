@@ -3,7 +3,7 @@ use Prim.Native.Nat.{ℕ, suc}
 use mathlib.Core.List.{List, [], _++_}
 use lib.ListN.{length}
 use Rattle.numbers.specs.BigEndian.{bytesOf}
-use Rattle.format.specs.Limits.{chipdata, regs, node, root}
+use Rattle.format.specs.Keywords.{chipdata, regs, node, root}
 use Rattle.format.specs.Fields.{addressSize}
 use Rattle.format.specs.Lookup.{gathered}
 use Rattle.format.specs.Tree.{Expr, Exprs, reading, constant, all, any, inverse, left, right, none, more, RegisterInstance, Register, Capture, Rule, Child, NodeInstance, Node, Root, Chip}

@@ -3,7 +3,8 @@ use Prim.Native.Nat.{ℕ}
 use mathlib.Core.Bool.{Bool}
 use mathlib.Core.List.{List, [], map}
 use lib.Dec.{eqb}
-use Rattle.format.specs.Limits.{chipdata, root}
+use Rattle.limits.specs.Limits.{Limits}
+use Rattle.format.specs.Keywords.{chipdata, root}
 use Rattle.format.specs.Parsed.{Parsed, andThen, making, requiring, rowAt}
 use Rattle.format.specs.Fields.{fieldAt, keywordAt, countAt, attentionAt, fresh}
 use Rattle.format.specs.RegisterLayout.{registersAt}
@@ -27,8 +28,9 @@ unfoldable pub rootsAt : List ℕ → Bool → ℕ → Parsed (List Root)
 rootsAt s unique at =
     andThen (keywordAt s at root) λ _ a. andThen (countAt s a 1) λ n b. rowAt (rootAt s unique) n [] b
 
--- The whole file. Where `unique` is false, number 7 is not looked at.
-unfoldable pub fileAt : List ℕ → Bool → ℕ → Parsed Chip
-fileAt s unique at =
-    andThen (startAt s at) λ m a. andThen (registersAt s unique a) λ rs b. andThen (nodesAt s unique b) λ ns c.
+-- The whole file, by the limits of its register instances and node instances. Where `unique` is false, number 7 is not looked at.
+unfoldable pub fileAt : Limits → List ℕ → Bool → ℕ → Parsed Chip
+fileAt limits s unique at =
+    andThen (startAt s at) λ m a. andThen (registersAt (limits .registerInstances) s unique a) λ rs b.
+    andThen (nodesAt (limits .nodeInstances) s unique b) λ ns c.
     making (λ ts. record { model = m; registers = rs; nodes = ns; roots = ts }) (rootsAt s unique c)

@@ -1,5 +1,5 @@
 -- The chip data layout and its rules: what a reader has to believe.
-pub mod Limits
+pub mod Keywords
 pub mod Refusals
 pub mod Parsed
 pub mod Tree

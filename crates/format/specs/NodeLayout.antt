@@ -4,7 +4,8 @@ use mathlib.Core.Bool.{Bool}
 use mathlib.Core.List.{List, [], _∷_, map}
 use lib.ListN.{length}
 use lib.Dec.{ltb}
-use Rattle.format.specs.Limits.{nodeLimit, levels, node}
+use Rattle.limits.specs.Limits.{levels}
+use Rattle.format.specs.Keywords.{node}
 use Rattle.format.specs.Parsed.{Parsed, andThen, making, requiring, rowAt}
 use Rattle.format.specs.Fields.{fieldAt, keywordAt, countAt, typeAt, attentionAt, fresh}
 use Rattle.format.specs.ExpressionLayout.{exprAt}
@@ -34,17 +35,17 @@ pub record InstanceHead : Type 0 where
   pub rules : ℕ
   pub children : ℕ
 
--- "Each instance: 1 number, 1 capture count, 1 rule count, 1 child count." `total` instances stand before it in the file; 8 where that makes 257, 7 where the node has the number already.
-unfoldable pub instanceHeadAt : List ℕ → Bool → ℕ → List ℕ → ℕ → Parsed InstanceHead
-instanceHeadAt s unique total numbers at =
-    andThen (requiring (fresh unique numbers) 7 at (requiring (λ n. ltb total nodeLimit) 8 at (fieldAt s at 1))) λ n a.
+-- "Each instance: 1 number, 1 capture count, 1 rule count, 1 child count." A file may have `limit` node instances, and `total` stand before it; 8 where this one is beyond the limit, 7 where the node has the number already.
+unfoldable pub instanceHeadAt : ℕ → List ℕ → Bool → ℕ → List ℕ → ℕ → Parsed InstanceHead
+instanceHeadAt limit s unique total numbers at =
+    andThen (requiring (fresh unique numbers) 7 at (requiring (λ n. ltb total limit) 8 at (fieldAt s at 1))) λ n a.
     andThen (fieldAt s a 1) λ c b. andThen (countAt s b 1) λ r d.
     making (λ k. record { number = n; captures = c; rules = r; children = k }) (fieldAt s d 1)
 
 -- A node instance: what it starts with, "then the captures .., the rules .., the children".
-unfoldable pub nodeInstanceAt : List ℕ → Bool → ℕ → List NodeInstance → ℕ → Parsed NodeInstance
-nodeInstanceAt s unique total before at =
-    andThen (instanceHeadAt s unique (total + length before) (map (λ i. i .number) before) at) λ h a.
+unfoldable pub nodeInstanceAt : ℕ → List ℕ → Bool → ℕ → List NodeInstance → ℕ → Parsed NodeInstance
+nodeInstanceAt limit s unique total before at =
+    andThen (instanceHeadAt limit s unique (total + length before) (map (λ i. i .number) before) at) λ h a.
     andThen (rowAt (captureAt s) (h .captures) [] a) λ cs b. andThen (rowAt (ruleAt s unique) (h .rules) [] b) λ rs c.
     making (λ ks. record { place = at; number = h .number; captures = cs; rules = rs; children = ks })
     (rowAt (childAt s unique) (h .children) [] c)
@@ -66,13 +67,13 @@ nodeHeadAt s unique ids at =
     andThen (requiring (fresh unique ids) 7 at (fieldAt s at 2)) λ i a.
     andThen (typeAt s a) λ t b. making (λ n. record { id = i; type = t; count = n }) (countAt s b 1)
 
-unfoldable pub nodeAt : List ℕ → Bool → List Node → ℕ → Parsed Node
-nodeAt s unique before at =
+unfoldable pub nodeAt : ℕ → List ℕ → Bool → List Node → ℕ → Parsed Node
+nodeAt limit s unique before at =
     andThen (nodeHeadAt s unique (map (λ n. n .id) before) at) λ h a.
     making (λ is. record { id = h .id; type = h .type; instances = is })
-    (rowAt (nodeInstanceAt s unique (nodeTotal before)) (h .count) [] a)
+    (rowAt (nodeInstanceAt limit s unique (nodeTotal before)) (h .count) [] a)
 
 -- ""NODE", 2-byte node count", and the nodes.
-unfoldable pub nodesAt : List ℕ → Bool → ℕ → Parsed (List Node)
-nodesAt s unique at =
-    andThen (keywordAt s at node) λ _ a. andThen (countAt s a 2) λ n b. rowAt (nodeAt s unique) n [] b
+unfoldable pub nodesAt : ℕ → List ℕ → Bool → ℕ → Parsed (List Node)
+nodesAt limit s unique at =
+    andThen (keywordAt s at node) λ _ a. andThen (countAt s a 2) λ n b. rowAt (nodeAt limit s unique) n [] b

@@ -4,7 +4,7 @@ use mathlib.Core.Bool.{true, false, _&&_}
 use mathlib.Core.List.{List, [], _∷_, map}
 use mathlib.Core.Path.{_≡_}
 use lib.ListN.{length}
-use Rattle.format.specs.Limits.{fileLimit, registerLimit, nodeLimit, levels}
+use Rattle.limits.specs.Limits.{Limits, levels}
 use Rattle.format.specs.Fields.{knownType, addressSize, knownFlags, readable, knownAttention, member}
 use Rattle.format.specs.Lookup.{some, gathered, registerEntries, registerNamed, nodeEntries, nodeNamed}
 use Rattle.format.specs.References.{namedBy, fits, hasRegister, hasNode, hasRule}
@@ -121,11 +121,12 @@ module _ (c : Chip) where
     pub children : Every (λ e. Distinct (map (λ k. k .bit) (e .instance .children))) (nodeEntries c)
     pub roots : Distinct (map (λ t. t .attention) (c .roots))
 
-  -- 8: at most 1,024 register instances and 256 node instances.
-  pub record WithinLimits : Type 0 where
-    pub registers : length (registerEntries c) ≤ registerLimit
-    pub nodes : length (nodeEntries c) ≤ nodeLimit
+-- 8: at most so many register instances and node instances.
+pub record WithinLimits (limits : Limits) (c : Chip) : Type 0 where
+  pub registers : length (registerEntries c) ≤ limits .registerInstances
+  pub nodes : length (nodeEntries c) ≤ limits .nodeInstances
 
+module _ (c : Chip) where
   -- 9: counts of 2 or more, shifts of 1 or more, at most 16 levels.
   pub record ExpressionsSound : Type 0 where
     pub counted : Every (λ r. Counted (r .expression)) (allRules c)
@@ -151,27 +152,27 @@ module _ (c : Chip) where
   unfoldable pub CapturesReadable : Type 0
   CapturesReadable = Every (λ k. some (λ x. registerNamed (k .id) (k .number) x && readable (x .flags)) (registerEntries c) ≡ true) (allCaptures c)
 
-  -- All rules.
-  pub record Meets : Type 0 where
-    pub fields : FieldsFit
-    -- 1: "file longer than 65,536 bytes"
-    pub size : length (encode c) ≤ fileLimit
-    -- 5
-    pub counts : CountsNotZero
-    -- 6
-    pub known : ValuesKnown
-    -- 7
-    pub unique : NamesUnique
-    -- 8
-    pub limits : WithinLimits
-    -- 9
-    pub expressions : ExpressionsSound
-    -- 10: "child bit above 63"
-    pub bits : Every (λ k. k .bit < 64) (allChildren c)
-    -- 12
-    pub present : NamesPresent
-    -- 13
-    pub fit : RegistersFit
-    pub captures : CapturesReadable
-    -- 14: "the child entries make a cycle"
-    pub acyclic : (i : ℕ) → OnCycle c i → ⊥
+-- All rules, by the limits that hold.
+pub record Meets (limits : Limits) (c : Chip) : Type 0 where
+  pub fields : FieldsFit c
+  -- 1: a "file longer than" the limit
+  pub size : length (encode c) ≤ limits .bytes
+  -- 5
+  pub counts : CountsNotZero c
+  -- 6
+  pub known : ValuesKnown c
+  -- 7
+  pub unique : NamesUnique c
+  -- 8
+  pub within : WithinLimits limits c
+  -- 9
+  pub expressions : ExpressionsSound c
+  -- 10: "child bit above 63"
+  pub bits : Every (λ k. k .bit < 64) (allChildren c)
+  -- 12
+  pub present : NamesPresent c
+  -- 13
+  pub fit : RegistersFit c
+  pub captures : CapturesReadable c
+  -- 14: "the child entries make a cycle"
+  pub acyclic : (i : ℕ) → OnCycle c i → ⊥

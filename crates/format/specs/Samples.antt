@@ -3,7 +3,7 @@ use Prim.Native.Nat.{ℕ}
 use mathlib.Core.List.{List, [], _∷_, _++_}
 use mathlib.Core.Path.{_≡_}
 use lib.ListN.{length, take, drop, set}
-use Rattle.format.specs.Limits.{levels}
+use Rattle.limits.specs.Limits.{libraryLimits, programLimits, levels}
 use Rattle.format.specs.Refusals.{CheckValues, acceptedWith, refusedWith}
 use Rattle.format.specs.Parsed.{done, making}
 use Rattle.format.specs.ExpressionLayout.{exprAt}
@@ -26,13 +26,13 @@ selfChild = set (take 51 b1) 44 1 ++ (0x00 ∷ 0x00 ∷ 0x01 ∷ 0x00 ∷ drop 5
 unfoldable pub capturing : ℕ → List ℕ
 capturing number = set (take 45 b1) 42 1 ++ (0x00 ∷ 0x00 ∷ 0x01 ∷ number ∷ drop 45 b1)
 
--- A row: a file and the checker's answer; or the bytes of an expression that names no register, and its value.
+-- A row: a file and the checker's answer, by the library's limits and by the program's; or the bytes of an expression that names no register, and its value.
 pub data Row : Type 0 where
   file : List ℕ → CheckValues → Row
   word : List ℕ → ℕ → Row
 
 abbrev pub Holds : Row → Type 0
-Holds (file s v) = check s ≡ v
+Holds (file s v) = (check libraryLimits s ≡ v) × (check programLimits s ≡ v)
 Holds (word s v) = making (valueWithin levels 64 (λ id number. 0)) (exprAt s levels 0) ≡ done v (length s)
 
 abbrev pub AllHold : List Row → Type 0

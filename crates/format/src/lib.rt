@@ -1,15 +1,6 @@
-// The public types of the chip data reader, its limits and its keywords. The layout and its rules are in specs/.
+// The public types of the chip data reader, and its keywords. The layout and its rules are in specs/.
 ghost use mathlib.Core.Path.{_≡_};
 ghost use Rattle.format.specs.Refusals.{numberOf};
-
-// Limits on a file: its bytes, register instances, node instances, and levels of an expression.
-pub const FILE_LIMIT: usize = 65_536;
-
-pub const REGISTER_LIMIT: usize = 1_024;
-
-pub const NODE_LIMIT: usize = 256;
-
-pub const LEVELS: usize = 16;
 
 // The four section keywords.
 pub const CHIPDATA: [u8; 8] = *b"CHIPDATA";

@@ -3,8 +3,8 @@ use Prim.Native.Nat.{ℕ}
 use mathlib.Core.Bool.{true}
 use mathlib.Core.List.{List, []}
 use mathlib.Core.Path.{_≡_, refl, sym, _∙_, ap}
-use Rattle.format.specs.Limits.{nodeLimit}
 use lib.Dec.{ltb}
+use Rattle.limits.specs.Limits.{libraryLimits}
 use Rattle.format.specs.Fields.{fieldAt, keywordAt, countAt, addressSize, fresh, member}
 use Rattle.format.specs.Parsed.{Parsed, done, refused, andThen, making, rowAt}
 use Rattle.format.specs.RegisterLayout.{RegisterHead, registerInstanceAt, registerHeadAt}
@@ -17,7 +17,6 @@ use Rattle.registers.specs.Registers.{registerFlagsAt, registerRestAt}
 use Rattle.nodes.specs.Nodes.{nodeNumber}
 use Rattle.index.specs.declared.Head.{Head}
 use Rattle.index.specs.declared.Instance.{Instance}
-use Rattle.tables.specs.Kinds.{kindOf}
 use Rattle.index.specs.Rows.{headOf, instanceOf}
 
 pub done-out : {A : Type 0} {a b : A} {n m : ℕ} → done a n ≡ done b m → (a ≡ b) × (n ≡ m)
@@ -35,14 +34,13 @@ pub unmade : {A B C : Type 0} (f : A → B) {p : Parsed A} {n k : ℕ} {a : A} {
 unfolding making
 unmade f e d = never (e ∙ ap (making f) d)
 
-some-limit : ltb 0 nodeLimit ≡ true
-unfolding nodeLimit
+some-limit : ltb 0 (libraryLimits .nodeInstances) ≡ true
 some-limit = refl
 
-module _ (s : List ℕ) (at : ℕ) where
+module _ (limit : ℕ) (s : List ℕ) (at : ℕ) where
   -- The fields of a register instance.
   pub register-instance-fields : (total type : ℕ) (before : List RegisterInstance) {i : RegisterInstance} {m : ℕ}
-      → registerInstanceAt s true total type before at ≡ done i m
+      → registerInstanceAt limit s true total type before at ≡ done i m
       → (fieldAt s at 1 ≡ done (i .number) (i .place)) × (fieldAt s (i .place) (addressSize type) ≡ done (i .address) m)
   unfolding registerInstanceAt
   register-instance-fields total type before {i} {m} e =
@@ -57,7 +55,7 @@ module _ (s : List ℕ) (at : ℕ) where
 
   pub register-instance-again : (total type : ℕ) (before : List RegisterInstance) {i : RegisterInstance} {m n p v next : ℕ}
       → done n p ≡ fieldAt s at 1 → done v next ≡ fieldAt s p (addressSize type)
-      → registerInstanceAt s true total type before at ≡ done i m
+      → registerInstanceAt limit s true total type before at ≡ done i m
       → _≡_ {A = Instance} (record { number = n; place = p; next = next }) (instanceOf (i .number) (i .place) m)
   register-instance-again total type before {i} {m} {n} {p} {v} {next} a b e =
       let f = register-instance-fields total type before e in
@@ -68,7 +66,7 @@ module _ (s : List ℕ) (at : ℕ) where
 
   pub register-instance-whole : {B : Type 0} (total type : ℕ) (before : List RegisterInstance) {i : RegisterInstance} {m n p w z : ℕ}
       → done n p ≡ fieldAt s at 1 → refused w z ≡ fieldAt s p (addressSize type)
-      → registerInstanceAt s true total type before at ≡ done i m → B
+      → registerInstanceAt limit s true total type before at ≡ done i m → B
   register-instance-whole total type before {i} {m} {n} {p} {w} {z} a b e =
       let f = register-instance-fields total type before e in
       let h = same-done a (f .0) in
@@ -76,9 +74,10 @@ module _ (s : List ℕ) (at : ℕ) where
       not-refused k (f .1)
 
   pub register-instance-there : {B : Type 0} (total type : ℕ) (before : List RegisterInstance) {i : RegisterInstance} {m w z : ℕ}
-      → refused w z ≡ fieldAt s at 1 → registerInstanceAt s true total type before at ≡ done i m → B
+      → refused w z ≡ fieldAt s at 1 → registerInstanceAt limit s true total type before at ≡ done i m → B
   register-instance-there total type before a e = not-refused a (register-instance-fields total type before e .0)
 
+module _ (s : List ℕ) (at : ℕ) where
   -- A register's head: its ID and the rest.
   register-head-parts : (ids : List ℕ) {h : RegisterHead} {m : ℕ} → registerHeadAt s true ids at ≡ done h m → (i : ℕ) × (a : ℕ) × (fieldAt s at 3 ≡ done i a) × (registerRestAt s i a ≡ done h m)
   unfolding registerHeadAt registerRestAt registerFlagsAt
@@ -100,7 +99,7 @@ module _ (s : List ℕ) (at : ℕ) where
       → done i a ≡ fieldAt s at 3
       → _≡_ {A = Parsed RegisterHead} (done (record { id = k .id; type = k .kind; flags = k .flags; count = k .count }) next) (registerRestAt s i a)
       → registerHeadAt s true ids at ≡ done h m
-      → _≡_ {A = Head} (record { id = k .id; kind = k .kind; code = kindOf (k .kind) (k .flags); count = k .count; next = next }) (headOf h m)
+      → _≡_ {A = Head} (record { id = k .id; kind = k .kind; count = k .count; next = next }) (headOf h m)
   head-is ids o b e = let f = same-done b (register-head-rest ids o e) in rw (← f .0, f .1)
 
   -- A node's head without the IDs before it.
@@ -111,9 +110,10 @@ module _ (s : List ℕ) (at : ℕ) where
       let q = requiring-out _ _ _ _ (t .2) in
       then-in _ _ (requiring-in _ _ _ _ (q .0) refl) (t .3)
 
+module _ (limit : ℕ) (s : List ℕ) (at : ℕ) where
   -- A node instance without those before it.
-  pub node-instance-again : (total : ℕ) (before : List NodeInstance) {i : NodeInstance} {m : ℕ} → nodeInstanceAt s true total before at ≡ done i m
-      → (nodeInstanceAt s true 0 [] at ≡ done i m) × (at ≡ i .place)
+  pub node-instance-again : (total : ℕ) (before : List NodeInstance) {i : NodeInstance} {m : ℕ} → nodeInstanceAt limit s true total before at ≡ done i m
+      → (nodeInstanceAt (libraryLimits .nodeInstances) s true 0 [] at ≡ done i m) × (at ≡ i .place)
   unfolding nodeInstanceAt instanceHeadAt fresh member
   node-instance-again total before {i} {m} e =
       let t = then-out _ _ e in
@@ -126,17 +126,18 @@ module _ (s : List ℕ) (at : ℕ) where
       (then-in _ _ (then-in _ _ (requiring-in _ _ _ _ (requiring-in _ _ _ _ (p .0) some-limit) refl) (h .3)) (t .3), ap (λ x. x .place) (k .2))
 
   -- Two readings of a node instance, after whatever stands before it, give the same.
-  pub node-instance-is : (total : ℕ) (b : List NodeInstance) {n next : ℕ} → done n next ≡ making nodeNumber (nodeInstanceAt s true total b at)
-      → (before : List NodeInstance) {i : NodeInstance} {m : ℕ} → nodeInstanceAt s true total before at ≡ done i m
+  pub node-instance-is : (total : ℕ) (b : List NodeInstance) {n next : ℕ} → done n next ≡ making nodeNumber (nodeInstanceAt limit s true total b at)
+      → (before : List NodeInstance) {i : NodeInstance} {m : ℕ} → nodeInstanceAt limit s true total before at ≡ done i m
       → _≡_ {A = Instance} (record { number = n; place = at; next = next }) (instanceOf (i .number) (i .place) m)
   node-instance-is total b {n} {next} z before {i} {m} e =
-      let f : Found nodeNumber (nodeInstanceAt s true total b at) n next = found nodeNumber (nodeInstanceAt s true total b at) z in
+      let f : Found nodeNumber (nodeInstanceAt limit s true total b at) n next = found nodeNumber (nodeInstanceAt limit s true total b at) z in
       let g = node-instance-again total b (f .is) in
       let h = node-instance-again total before e in
       let w = done-out (sym (g .0) ∙ h .0) in
       let k : n ≡ i .number = sym (f .made) ∙ ap nodeNumber (w .0) in
       rw (k, ← h .1, w .1)
 
+module _ (s : List ℕ) (at : ℕ) where
   -- A section that was read: its keyword, its count, and its elements.
   module _ {A : Type 0} (word : List ℕ) (width : ℕ) (p : List A → ℕ → Parsed A) {xs : List A} {m : ℕ}
       (e : andThen (keywordAt s at word) (λ u a. andThen (countAt s a width) λ n b. rowAt p n [] b) ≡ done xs m) where

@@ -34,17 +34,17 @@ made-then {A} {B} {C} {D} (done a m) q g f = go (q a m)
     go (done b n) = refl
     go (refused k i) = refl
 
-pub node-split : (s : List ℕ) (before : List Node) (at : ℕ) → nodeAt s true before at ≡ andThen (requiring (fresh true (map nodeId before)) 7 at (fieldAt s at 2)) (nodeAfter s (nodeTotal before))
+pub node-split : (limit : ℕ) (s : List ℕ) (before : List Node) (at : ℕ) → nodeAt limit s true before at ≡ andThen (requiring (fresh true (map nodeId before)) 7 at (fieldAt s at 2)) (nodeAfter limit s (nodeTotal before))
 unfolding nodeAt nodeHeadAt nodeAfter
-node-split s before at =
+node-split limit s before at =
     then-then _ _ _
     ∙ ap (andThen (requiring (fresh true (map nodeId before)) 7 at (fieldAt s at 2)))
     (fun-ext λ i. fun-ext λ a. made-then (typeAt s a) (λ t b. countAt s b 1) (λ t n. record { id = i; type = t; count = n }) _)
 
 -- The rest of a node has the ID that it is given.
-pub node-named : (s : List ℕ) (total id at : ℕ) {i n next : ℕ} → _≡_ {A = Parsed Element} (done (record { id = i; instances = n }) next) (making nodeElement (nodeAfter s total id at)) → i ≡ id
+pub node-named : (limit : ℕ) (s : List ℕ) (total id at : ℕ) {i n next : ℕ} → _≡_ {A = Parsed Element} (done (record { id = i; instances = n }) next) (making nodeElement (nodeAfter limit s total id at)) → i ≡ id
 unfolding nodeAfter
-node-named s total id at z =
+node-named limit s total id at z =
     let f = found nodeElement _ z in
     let p = then-out _ _ (f .is) in
     let q = then-out _ _ (p .3) in
@@ -52,18 +52,18 @@ node-named s total id at z =
     sym (ap (λ x. x .id) (g .2) ∙ ap (λ x. x .id) (f .made))
 
 -- The rows of its instances.
-pub node-after-filled : (s : List ℕ) (total id at : ℕ) (t : Rows) {u : Rows} {type a count b : ℕ} → done type a ≡ typeAt s at → done count b ≡ countAt s a 1
-    → ((is : List NodeInstance) (m : ℕ) → rowAt (nodeInstanceAt s true total) count [] b ≡ done is m → u ≡ filled t total (map (λ i. rowOf id (type * 2 + 1) (i .number) (i .place)) is))
-    → (n : Node) (m : ℕ) → nodeAfter s total id at ≡ done n m → u ≡ filled t total (map nodeRow (nodeEntriesOf n))
+pub node-after-filled : (limit : ℕ) (s : List ℕ) (total id at : ℕ) (t : Rows) {u : Rows} {type a count b : ℕ} → done type a ≡ typeAt s at → done count b ≡ countAt s a 1
+    → ((is : List NodeInstance) (m : ℕ) → rowAt (nodeInstanceAt limit s true total) count [] b ≡ done is m → u ≡ filled t total (map (λ i. rowOf id (type * 2 + 1) (i .number) (i .place)) is))
+    → (n : Node) (m : ℕ) → nodeAfter limit s total id at ≡ done n m → u ≡ filled t total (map nodeRow (nodeEntriesOf n))
 unfolding nodeAfter nodeEntriesOf nodeRow wantedKind
-node-after-filled s total id at t {u} {type} {a} {count} {b} h k f n m d =
+node-after-filled limit s total id at t {u} {type} {a} {count} {b} h k f n m d =
     let p = then-out _ _ d in
     let q = then-out _ _ (p .3) in
     let g = making-out _ _ (q .3) in
     let w = same-done h (p .2) in
     let l : done count b ≡ countAt s (p .1) 1 = k ∙ rw (w .1) in
     let v = same-done l (q .2) in
-    let r : rowAt (nodeInstanceAt s true total) count [] b ≡ done (g .0) m = rw (v .0, v .1) (g .1) in
+    let r : rowAt (nodeInstanceAt limit s true total) count [] b ≡ done (g .0) m = rw (v .0, v .1) (g .1) in
     let y : type ≡ p .0 = w .0 in
     subst (λ x. u ≡ filled t total (map nodeRow (nodeEntriesOf x))) (g .2) (f (g .0) m r ∙ rw y (ap (filled t total) (sym (map-map nodeRow _ (g .0)))))
 
@@ -71,31 +71,31 @@ node-after-filled s total id at t {u} {type} {a} {count} {b} h k f n m d =
 pub rows-of : (ns : List Node) → map nodeRow (gathered nodeEntriesOf ns) ≡ gathered (λ n. map nodeRow (nodeEntriesOf n)) ns
 rows-of ns = map-gathered nodeRow nodeEntriesOf ns
 
-pub nodes-reader : (s : List ℕ) → Reader (nodeAt s true) nodeId (λ n. length (n .instances)) nodeTotal (λ n. map nodeRow (nodeEntriesOf n)) 256
+pub nodes-reader : (limit : ℕ) (s : List ℕ) → Reader (nodeAt limit s true) nodeId (λ n. length (n .instances)) nodeTotal (λ n. map nodeRow (nodeEntriesOf n)) limit
 unfolding nodeEntriesOf
-nodes-reader s =
+nodes-reader limit s =
     record {
       nothing = nodes-none;
       another = nodes-more;
       sized = λ n. length-map (nodeEntriesOf n) nodeRow ∙ length-map (n .instances) _;
-      bounded = λ before at i k m e. node-size s before at e .1;
-      same = λ at b before e x y m n. node-same s at b before e;
+      bounded = λ before at i k m e. node-size limit s before at e .1;
+      same = λ at b before e x y m n. node-same limit s at b before e;
     }
 
 -- A node by its ID and the rest.
-module _ (s : List ℕ) (at : ℕ) (before : List Node) {total : ℕ} (e : total ≡ nodeTotal before) where
-  pub node-made : {C : Type 0} (f : Node → C) {id a : ℕ} {y : Parsed C} → done id a ≡ requiring (fresh true (map nodeId before)) 7 at (fieldAt s at 2) → y ≡ making f (nodeAfter s total id a) → y ≡ making f (nodeAt s true before at)
-  node-made = rest-made (nodeAt s true) nodeId nodeTotal s at 2 (nodeAfter s) before (node-split s before at) e
+module _ (limit : ℕ) (s : List ℕ) (at : ℕ) (before : List Node) {total : ℕ} (e : total ≡ nodeTotal before) where
+  pub node-made : {C : Type 0} (f : Node → C) {id a : ℕ} {y : Parsed C} → done id a ≡ requiring (fresh true (map nodeId before)) 7 at (fieldAt s at 2) → y ≡ making f (nodeAfter limit s total id a) → y ≡ making f (nodeAt limit s true before at)
+  node-made = rest-made (nodeAt limit s true) nodeId nodeTotal s at 2 (nodeAfter limit s) before (node-split limit s before at) e
 
-  pub node-rest : {id a : ℕ} → done id a ≡ requiring (fresh true (map nodeId before)) 7 at (fieldAt s at 2) → (g : Node) (m : ℕ) → nodeAt s true before at ≡ done g m → nodeAfter s total id a ≡ done g m
-  node-rest = rest-done (nodeAt s true) nodeId nodeTotal s at 2 (nodeAfter s) before (node-split s before at) e
+  pub node-rest : {id a : ℕ} → done id a ≡ requiring (fresh true (map nodeId before)) 7 at (fieldAt s at 2) → (g : Node) (m : ℕ) → nodeAt limit s true before at ≡ done g m → nodeAfter limit s total id a ≡ done g m
+  node-rest = rest-done (nodeAt limit s true) nodeId nodeTotal s at 2 (nodeAfter limit s) before (node-split limit s before at) e
 
-  pub node-cut : {C : Type 0} (f : Node → C) {k m : ℕ} → refused k m ≡ requiring (fresh true (map nodeId before)) 7 at (fieldAt s at 2) → refused k m ≡ making f (nodeAt s true before at)
-  node-cut = rest-cut (nodeAt s true) nodeId nodeTotal s at 2 (nodeAfter s) before (node-split s before at) e
+  pub node-cut : {C : Type 0} (f : Node → C) {k m : ℕ} → refused k m ≡ requiring (fresh true (map nodeId before)) 7 at (fieldAt s at 2) → refused k m ≡ making f (nodeAt limit s true before at)
+  node-cut = rest-cut (nodeAt limit s true) nodeId nodeTotal s at 2 (nodeAfter limit s) before (node-split limit s before at) e
 
   -- An ID that does not fall.
   pub node-read : {bound id a : ℕ} → (done id a ≡ requiring (fresh true (map nodeId before)) 7 at (fieldAt s at 2)) × (bound ≤ id) × (id < 65536)
-      → {name n next : ℕ} → _≡_ {A = Parsed Element} (done (record { id = name; instances = n }) next) (making nodeElement (nodeAfter s total id a))
-      → _≡_ {A = Parsed Element} (done (record { id = id; instances = n }) next) (making nodeElement (nodeAt s true before at)) × (bound ≤ id) × (id < 16777216)
+      → {name n next : ℕ} → _≡_ {A = Parsed Element} (done (record { id = name; instances = n }) next) (making nodeElement (nodeAfter limit s total id a))
+      → _≡_ {A = Parsed Element} (done (record { id = id; instances = n }) next) (making nodeElement (nodeAt limit s true before at)) × (bound ≤ id) × (id < 16777216)
   node-read {bound} {id} {a} o {name} {n} {next} z =
-      (node-made nodeElement (o .0) (ap (λ j. done (record { id = j; instances = n }) next) (sym (node-named s total id a z)) ∙ z), o .1, omega (arith, o .2))
+      (node-made nodeElement (o .0) (ap (λ j. done (record { id = j; instances = n }) next) (sym (node-named limit s total id a z)) ∙ z), o .1, omega (arith, o .2))

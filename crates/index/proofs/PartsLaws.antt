@@ -3,9 +3,10 @@ use Prim.Native.Nat.{ℕ}
 use mathlib.Core.Bool.{true}
 use mathlib.Core.List.{List, []}
 use mathlib.Core.Path.{_≡_, _∙_, ap}
+use Rattle.limits.specs.Limits.{libraryLimits}
 use Rattle.format.specs.Fields.{fieldAt, attentionAt}
 use Rattle.format.specs.ExpressionLayout.{exprAt}
-use Rattle.format.specs.Limits.{levels}
+use Rattle.limits.specs.Limits.{levels}
 use Rattle.format.specs.NodeLayout.{InstanceHead, captureAt, ruleAt, childAt, instanceHeadAt, nodeInstanceAt}
 use Rattle.format.specs.Parsed.{done, rowAt}
 use Rattle.format.specs.Tree.{Capture, Rule, Child, NodeInstance}
@@ -77,12 +78,12 @@ module _ (s : List ℕ) (at : ℕ) where
     pub captures-at : ℕ
     pub rules-at : ℕ
     pub children-at : ℕ
-    pub read : instanceHeadAt s true 0 [] at ≡ done head captures-at
+    pub read : instanceHeadAt (libraryLimits .nodeInstances) s true 0 [] at ≡ done head captures-at
     pub captures : rowAt (captureAt s) (head .captures) [] captures-at ≡ done (i .captures) rules-at
     pub rules : rowAt (ruleAt s true) (head .rules) [] rules-at ≡ done (i .rules) children-at
     pub children : rowAt (childAt s true) (head .children) [] children-at ≡ done (i .children) m
 
-  parts-of : {i : NodeInstance} {m : ℕ} → nodeInstanceAt s true 0 [] at ≡ done i m → Parts i m
+  parts-of : {i : NodeInstance} {m : ℕ} → nodeInstanceAt (libraryLimits .nodeInstances) s true 0 [] at ≡ done i m → Parts i m
   unfolding nodeInstanceAt
   parts-of {i} {m} e =
       let t = then-out _ _ e in
@@ -94,5 +95,5 @@ module _ (s : List ℕ) (at : ℕ) where
       let ks : k .0 ≡ i .children = ap (λ x. x .children) (k .2) in
       record { head = t .0; captures-at = t .1; rules-at = c .1; children-at = r .1; read = t .2; captures = c .2 ∙ rw cs; rules = r .2 ∙ rw rs; children = k .1 ∙ rw ks }
 
-  pub instance-parts : (total : ℕ) (before : List NodeInstance) {i : NodeInstance} {m : ℕ} → nodeInstanceAt s true total before at ≡ done i m → Parts i m
-  instance-parts total before e = parts-of (node-instance-again s at total before e .0)
+  pub instance-parts : (limit total : ℕ) (before : List NodeInstance) {i : NodeInstance} {m : ℕ} → nodeInstanceAt limit s true total before at ≡ done i m → Parts i m
+  instance-parts limit total before e = parts-of (node-instance-again limit s at total before e .0)

@@ -12,10 +12,6 @@ use Rattle.index.specs.Rows.{entryPlace, entryWanted}
 abbrev pub registerKinds : Chip → List ℕ
 registerKinds c = map (λ e. kindOf (e .type) (e .flags)) (registerEntries c)
 
--- The places of the register instances' addresses.
-abbrev pub registerPlaces : Chip → List ℕ
-registerPlaces c = map (λ e. e .instance .place) (registerEntries c)
-
 -- The kinds that the rules of the node instances may name, and the places of these.
 abbrev pub nodeWanted : Chip → List ℕ
 nodeWanted c = map entryWanted (nodeEntries c)

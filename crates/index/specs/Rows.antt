@@ -4,6 +4,7 @@ use mathlib.Core.Bool.{true}
 use mathlib.Core.List.{List, [], _∷_}
 use mathlib.Core.Path.{_≡_}
 use lib.ListN.{length, set}
+use Rattle.limits.specs.Limits.{libraryLimits}
 use Rattle.format.specs.Lookup.{RegisterEntry, NodeEntry}
 use Rattle.format.specs.RegisterLayout.{RegisterHead}
 use Rattle.format.specs.NodeLayout.{nodeInstanceAt}
@@ -57,21 +58,21 @@ nodeRow e = rowOf (e .id) (wantedKind (e .type)) (e .instance .number) (e .insta
 
 -- What is kept of the head of a register, and of an instance.
 abbrev pub headOf : RegisterHead → ℕ → declared.Head
-headOf h next = record { id = h .id; kind = h .type; code = kindOf (h .type) (h .flags); count = h .count; next = next }
+headOf h next = record { id = h .id; kind = h .type; count = h .count; next = next }
 
 abbrev pub instanceOf : ℕ → ℕ → ℕ → Instance
 instanceOf n p next = record { number = n; place = p; next = next }
 
--- The rest of a node, after its ID; `total` instances stand in the nodes before.
-unfoldable pub nodeAfter : List ℕ → ℕ → ℕ → ℕ → Parsed Node
-nodeAfter s total i at =
+-- The rest of a node, after its ID. A file may have `limit` node instances, and `total` stand in the nodes before.
+unfoldable pub nodeAfter : ℕ → List ℕ → ℕ → ℕ → ℕ → Parsed Node
+nodeAfter limit s total i at =
     andThen (typeAt s at) λ t a. andThen (countAt s a 1) λ n b.
-    making (λ is. record { id = i; type = t; instances = is }) (rowAt (nodeInstanceAt s true total) n [] b)
+    making (λ is. record { id = i; type = t; instances = is }) (rowAt (nodeInstanceAt limit s true total) n [] b)
 
--- A node instance is read again at its place.
+-- A node instance is read again at its place, by itself: no limit is near.
 pub record ReadAgain (s : List ℕ) (e : NodeEntry) : Type 0 where
   pub next : ℕ
-  pub read : nodeInstanceAt s true 0 [] (e .instance .place) ≡ done (e .instance) next
+  pub read : nodeInstanceAt (libraryLimits .nodeInstances) s true 0 [] (e .instance .place) ≡ done (e .instance) next
 
 -- The place and the kind in the row of a node instance.
 abbrev pub entryPlace : NodeEntry → ℕ

@@ -1,7 +1,6 @@
-// The rows of the register instances of a section that was read before, with the places of their addresses.
+// Where the address of a register instance stands, in a registers section that was read before.
 use crate::Head;
 use crate::Instance;
-use crate::put_row;
 use fields::ByteRead;
 use fields::NextRead;
 use fields::NumberRead;
@@ -9,25 +8,32 @@ use fields::byte_at;
 use fields::keyword_at;
 use fields::number_at;
 use fields::number_count_at;
+use format::Address;
+use format::Kind;
+use format::Refusal;
 use numbers::Width;
 use registers::RegisterHeadRead;
 use registers::address_at;
 use registers::register_rest_at;
-use tables::key;
-ghost use Prim.Native.Nat.{ℕ, _<_};
+ghost use Prim.Native.Nat.{ℕ, _+_, _≤_};
 ghost use mathlib.Core.Bool.{true};
-ghost use mathlib.Core.List.{List, [], map};
+ghost use mathlib.Core.List.{List, []};
 ghost use mathlib.Core.Path.{_≡_};
-ghost use Rattle.format.specs.Lookup.{gathered, entriesOf};
+ghost use lib.ListN.{length};
+ghost use Rattle.format.specs.Fields.{addressSize};
+ghost use Rattle.format.specs.Lookup.{position, at, gathered, entriesOf, registerNamed};
 ghost use Rattle.format.specs.Parsed.{done, rowAt};
+ghost use Rattle.format.specs.Refusals.{addressValues};
 ghost use Rattle.format.specs.RegisterLayout.{RegisterHead, registerInstanceAt, registerHeadAt, registerAt, registersAt};
 ghost use Rattle.format.specs.Tree.{RegisterInstance, Register};
-ghost use Rattle.index.specs.Rows.{Rows, filled, registerRow, rowOf, headOf, instanceOf};
+ghost use Rattle.format.specs.Verdict.{addressIn};
+ghost use Rattle.index.specs.Rows.{headOf, instanceOf};
+ghost use Rattle.index.specs.Sought.{addressAmong, registerOf};
 
 // A register instance that was read before.
 fn instance_at(s: &[u8], at: usize, kind: u8) -> Instance
-    ensures { λ r. ⌜ ((total : ℕ) (before : List RegisterInstance) (i : RegisterInstance) (m : ℕ)
-        → registerInstanceAt (now (s .entry)) true total kind before at ≡ done i m
+    ensures { λ r. ⌜ ((limit total : ℕ) (before : List RegisterInstance) (i : RegisterInstance) (m : ℕ)
+        → registerInstanceAt limit (now (s .entry)) true total kind before at ≡ done i m
         → r ≡ instanceOf (i .number) (i .place) m) ⌝ }
 {
     let b = byte_at(s, at);
@@ -55,53 +61,11 @@ fn instance_at(s: &[u8], at: usize, kind: u8) -> Instance
     }
 }
 
-// The instances of a register that was read before, from place k of the tables on: the place after them. It reads each instance once.
-fn fill_instances(
-    s: &[u8],
-    at: usize,
-    id: u64,
-    kind: u8,
-    code: u64,
-    count: u8,
-    k: usize,
-    keys: &mut [u64],
-    kinds: &mut [u64],
-    places: &mut [u64],
-) -> usize
-    requires { ⌜ k < 1024 ⌝ }
-    ensures { λ r. ⌜ ((total : ℕ) (is : List RegisterInstance) (m : ℕ)
-        → rowAt (registerInstanceAt (now (s .entry)) true total kind) count [] at ≡ done is m
-        → (r ≡ m) × _≡_ {A = Rows}
-        (record { keys = now (keys .exit); kinds = now (kinds .exit); places = now (places .exit) })
-        (filled (record { keys = now (keys .entry); kinds = now (kinds .entry); places = now (places .entry) }) k (map (λ i. rowOf id code (i .number) (i .place)) is))) ⌝ }
-{
-    let mut left = count;
-    let mut place = at;
-    let mut j = k;
-    while 0 < left {
-        let i = instance_at(s, place, kind);
-        put_row(
-            keys,
-            kinds,
-            places,
-            j,
-            key(id, i.number),
-            code,
-            i.place as u64,
-        );
-        place = i.next;
-        j += 1;
-        left -= 1;
-    }
-    place
-}
-
 // Where a register that was read before is not there, which does not happen.
 fn no_head(next: usize) -> Head {
     Head {
         id: 0,
         kind: 0,
-        code: 0,
         count: 0,
         next,
     }
@@ -119,7 +83,6 @@ fn head_at(s: &[u8], at: usize) -> Head
                 RegisterHeadRead::Head(h, next) => Head {
                     id: h.id,
                     kind: h.kind,
-                    code: h.kind as u64 * 2 + (h.flags / 128) as u64,
                     count: h.count,
                     next,
                 },
@@ -130,58 +93,125 @@ fn head_at(s: &[u8], at: usize) -> Head
     }
 }
 
-// So many registers that were read before, from the front of the tables on. It reads each once.
-fn fill_rows(s: &[u8], at: usize, n: u64, keys: &mut [u64], kinds: &mut [u64], places: &mut [u64])
-    ensures { λ r. ⌜ ((rs : List Register) (m : ℕ)
-        → rowAt (registerAt (now (s .entry)) true) n [] at ≡ done rs m
-        → _≡_ {A = Rows}
-        (record { keys = now (keys .exit); kinds = now (kinds .exit); places = now (places .exit) })
-        (filled (record { keys = now (keys .entry); kinds = now (kinds .entry); places = now (places .entry) }) 0 (map registerRow (gathered entriesOf rs)))) ⌝ }
+// The answer where there is no such register instance.
+fn absent() -> Address
+    ensures { λ r. ⌜ addressValues r ≡ addressIn [] ⌝ }
 {
-    let mut left = n;
-    let mut place = at;
-    let mut k = 0;
-    while 0 < left {
-        if format::REGISTER_LIMIT <= k {
-            return;
-        }
-        let h = head_at(s, place);
-        place = fill_instances(
-            s,
-            h.next,
-            h.id,
-            h.kind,
-            h.code,
-            h.count,
-            k,
-            keys,
-            kinds,
-            places,
-        );
-        k += h.count as usize;
-        left -= 1;
-    }
+    Address::Refused(Refusal {
+        kind: Kind::NameAbsent,
+        place: 0,
+    })
 }
 
-// The rows of all register instances of a registers section that was read before. It reads the section once.
-pub fn fill_registers(s: &[u8], at: usize, keys: &mut [u64], kinds: &mut [u64], places: &mut [u64])
-    ensures { λ r. ⌜ ((rs : List Register) (m : ℕ)
-        → registersAt (now (s .entry)) true at ≡ done rs m
-        → _≡_ {A = Rows}
-        (record { keys = now (keys .exit); kinds = now (kinds .exit); places = now (places .exit) })
-        (filled (record { keys = now (keys .entry); kinds = now (kinds .entry); places = now (places .entry) }) 0 (map registerRow (gathered entriesOf rs)))) ⌝ }
+// The size of an address: four bytes at type 1, eight at type 2.
+fn address_size(kind: u8) -> usize
+    ensures { λ r. ⌜ r ≡ addressSize kind ⌝ }
 {
-    let k = keyword_at(s, at, &format::REGS);
+    if kind == 1 {
+        return 4;
+    }
+    8
+}
+
+// The address of the instance of that number, of a register that was read before. It reads each instance once, up to that one.
+fn instance_address(s: &[u8], h: Head, number: u8) -> Address
+    ensures { λ r. ⌜ ((limit total flags : ℕ) (is : List RegisterInstance) (m : ℕ)
+        → rowAt (registerInstanceAt limit (now (s .entry)) true total (h .kind)) (h .count) [] (h .next) ≡ done is m
+        → addressValues r ≡ addressAmong (h .id) number (entriesOf (registerOf (h .id) (h .kind) flags is))) ⌝ }
+{
+    let kind = h.kind;
+    let mut left = h.count;
+    let mut place = h.next;
+    while 0 < left {
+        let i = instance_at(s, place, kind);
+        if i.number == number {
+            return Address::At(i.place, address_size(kind));
+        }
+        place = i.next;
+        left -= 1;
+    }
+    absent()
+}
+
+// The address of the instance of that ID and number, if it is one of a register that was read before. It looks at no instance of a register with another ID.
+fn register_address(s: &[u8], h: Head, id: u64, number: u8) -> Address
+    ensures { λ r. ⌜ ((limit total flags : ℕ) (is : List RegisterInstance) (m : ℕ)
+        → rowAt (registerInstanceAt limit (now (s .entry)) true total (h .kind)) (h .count) [] (h .next) ≡ done is m
+        → addressValues r ≡ addressAmong id number (entriesOf (registerOf (h .id) (h .kind) flags is))) ⌝ }
+{
+    if h.id == id {
+        return instance_address(s, h, number);
+    }
+    absent()
+}
+
+// The place so many bytes on, where these stand in the file; where they do not, the place itself.
+fn place_after(s: &[u8], at: usize, n: usize) -> usize
+    ensures { λ r. ⌜ (at + n ≤ length (now (s .entry)) → r ≡ at + n) ⌝ }
+    ensures { λ r. ⌜ (n ≡ 0 → r ≡ at) ⌝ }
+{
+    if s.len() < n {
+        return at;
+    }
+    if s.len() - n < at {
+        return at;
+    }
+    at + n
+}
+
+// The place after the instances of a register that was read before. Each is a number byte and an address, so it reads none.
+fn after_instances(s: &[u8], h: Head) -> usize
+    ensures { λ r. ⌜ ((limit total : ℕ) (is : List RegisterInstance) (m : ℕ)
+        → rowAt (registerInstanceAt limit (now (s .entry)) true total (h .kind)) (h .count) [] (h .next) ≡ done is m
+        → r ≡ m) ⌝ }
+{
+    let n = h.count as usize;
+    if h.kind == 1 {
+        return place_after(s, h.next, n * 5);
+    }
+    place_after(s, h.next, n * 9)
+}
+
+// The address of the instance of that ID and number among those of so many registers that were read before. It reads the head of each, up to the one that is sought.
+fn row_address(s: &[u8], from: usize, n: u64, id: u64, number: u8) -> Address
+    ensures { λ r. ⌜ ((limit : ℕ) (rs : List Register) (m : ℕ)
+        → rowAt (registerAt limit (now (s .entry)) true) n [] from ≡ done rs m
+        → addressValues r ≡ addressAmong id number (gathered entriesOf rs)) ⌝ }
+{
+    let mut left = n;
+    let mut place = from;
+    while 0 < left {
+        let h = head_at(s, place);
+        let a = register_address(s, h, id, number);
+        match a {
+            Address::At(offset, size) => {
+                return Address::At(offset, size);
+            }
+            Address::Refused(_) => {
+                place = after_instances(s, h);
+            }
+        }
+        left -= 1;
+    }
+    absent()
+}
+
+// The address of the instance of that ID and number in a registers section that was read before: its place and its size; or refusal 12 at 0 where no register has such an instance.
+// It walks over the section once, up to the instance that is sought, and keeps no table.
+pub fn find_address(s: &[u8], from: usize, id: u64, number: u8) -> Address
+    ensures { λ r. ⌜ ((limit : ℕ) (rs : List Register) (m : ℕ)
+        → registersAt limit (now (s .entry)) true from ≡ done rs m
+        → addressValues r ≡ addressIn (at (position (registerNamed id number) (gathered entriesOf rs)) (gathered entriesOf rs))) ⌝ }
+{
+    let k = keyword_at(s, from, &format::REGS);
     match k {
         NextRead::Next(a) => {
             let c = number_count_at(s, a, Width::Three);
             match c {
-                NumberRead::Number(n, b) => {
-                    fill_rows(s, b, n, keys, kinds, places);
-                }
-                NumberRead::Refused(_) => {}
+                NumberRead::Number(n, b) => row_address(s, b, n, id, number),
+                NumberRead::Refused(_) => absent(),
             }
         }
-        NextRead::Refused(_) => {}
+        NextRead::Refused(_) => absent(),
     }
 }

@@ -1,15 +1,14 @@
-// Tables of a file whose layout was read: a row for each register instance and for each node instance, in file order.
+// Of a file whose layout was read: a table with a row for each node instance, in file order; and where the address of a register instance stands.
 ghost use mathlib.Core.Path.{_≡_};
 ghost use Rattle.index.specs.Rows.{Rows, putRow};
 
 pub mod addresses;
 pub mod node_rows;
 
-// What a register or a node starts with, and the place after that.
+// What a register starts with, and the place after that.
 pub struct Head {
     pub id: u64,
     pub kind: u8,
-    pub code: u64,
     pub count: u8,
     pub next: usize,
 }

@@ -16,16 +16,19 @@ use fields::seen::enter_ids;
 use fields::seen::larger;
 use fields::seen::rising_id_at;
 use fields::type_at;
+use limits::LimitSet;
+use limits::node_instances;
 use nodes::NodeHeadRead;
 use nodes::node_head_at;
 use nodes::node_instance_at;
 use numbers::Width;
 use tables::key;
 use tables::positions::NODE_PLACES;
-ghost use Prim.Native.Nat.{ℕ};
+ghost use Prim.Native.Nat.{ℕ, _≤_};
 ghost use mathlib.Core.Bool.{true};
 ghost use mathlib.Core.List.{List, [], map};
 ghost use mathlib.Core.Path.{_≡_};
+ghost use Rattle.limits.specs.Limits.{libraryLimits, limitsOf};
 ghost use Rattle.format.specs.Lookup.{gathered, nodeEntriesOf};
 ghost use Rattle.format.specs.NodeLayout.{nodeInstanceAt, nodeTotal, nodeAt, nodesAt};
 ghost use Rattle.format.specs.Parsed.{done, making, rowAt};
@@ -37,7 +40,7 @@ ghost use Rattle.fields.specs.Views.{nextParsed, elementParsed, countParsed, se
 ghost use Rattle.nodes.specs.Nodes.{nodeId, nodeElement, nodeSection};
 ghost use Rattle.index.specs.Rows.{Rows, filled, nodeRow, rowOf, nodeAfter};
 
-// The instances of a node, with their rows; `total` instances stand before them in the file. It reads each once.
+// The instances of a node, with their rows; `total` instances stand before them in the file, which may have `limit`. It reads each once.
 fn instances_at(
     s: &[u8],
     at: usize,
@@ -45,13 +48,14 @@ fn instances_at(
     code: u64,
     count: u8,
     total: usize,
+    limit: usize,
     keys: &mut [u64],
     kinds: &mut [u64],
     places: &mut [u64],
 ) -> NextRead
-    ensures { λ r. ⌜ nextParsed r ≡ forget (rowAt (nodeInstanceAt (now (s .entry)) true total) count [] at) ⌝ }
+    ensures { λ r. ⌜ nextParsed r ≡ forget (rowAt (nodeInstanceAt limit (now (s .entry)) true total) count [] at) ⌝ }
     ensures { λ r. ⌜ ((is : List NodeInstance) (m : ℕ)
-        → rowAt (nodeInstanceAt (now (s .entry)) true total) count [] at ≡ done is m
+        → rowAt (nodeInstanceAt limit (now (s .entry)) true total) count [] at ≡ done is m
         → _≡_ {A = Rows}
         (record { keys = now (keys .exit); kinds = now (kinds .exit); places = now (places .exit) })
         (filled (record { keys = now (keys .entry); kinds = now (kinds .entry); places = now (places .entry) }) total (map (λ i. rowOf id code (i .number) (i .place)) is))) ⌝ }
@@ -61,7 +65,7 @@ fn instances_at(
     let mut left = count;
     let mut place = at;
     while 0 < left {
-        let i = node_instance_at(s, place, begun, &seen);
+        let i = node_instance_at(s, place, begun, limit, &seen);
         match i {
             ByteRead::Byte(number, next) => {
                 seen[number as usize] = 1;
@@ -96,6 +100,7 @@ fn node_at(
     entered: usize,
     largest: u64,
     total: usize,
+    limit: usize,
     keys: &mut [u64],
     kinds: &mut [u64],
     places: &mut [u64],
@@ -104,13 +109,13 @@ fn node_at(
         → (before : List Node)
         → Tells (newAfter largest (now (ids .entry))) (map nodeId before)
         → total ≡ nodeTotal before
-        → elementParsed r ≡ making nodeElement (nodeAt (now (s .entry)) true before at)) ⌝ }
+        → elementParsed r ≡ making nodeElement (nodeAt limit (now (s .entry)) true before at)) ⌝ }
     ensures { λ r. ⌜ (Indexed (now (index .entry)) (now (ids .entry)) entered
         → (before : List Node)
         → Tells (newAfter largest (now (ids .entry))) (map nodeId before)
         → total ≡ nodeTotal before
         → (n : Node) (m : ℕ)
-        → nodeAt (now (s .entry)) true before at ≡ done n m
+        → nodeAt limit (now (s .entry)) true before at ≡ done n m
         → _≡_ {A = Rows}
         (record { keys = now (keys .exit); kinds = now (kinds .exit); places = now (places .exit) })
         (filled (record { keys = now (keys .entry); kinds = now (kinds .entry); places = now (places .entry) }) total (map nodeRow (nodeEntriesOf n)))) ⌝ }
@@ -121,7 +126,7 @@ fn node_at(
             let id = h.id;
             let count = h.count;
             let code = h.kind as u64 * 2 + 1;
-            let rest = instances_at(s, a, id, code, count, total, keys, kinds, places);
+            let rest = instances_at(s, a, id, code, count, total, limit, keys, kinds, places);
             match rest {
                 NextRead::Next(end) => ElementRead::Element(id, count, end),
                 NextRead::Refused(r) => ElementRead::Refused(r),
@@ -137,13 +142,14 @@ fn node_after(
     at: usize,
     id: u64,
     total: usize,
+    limit: usize,
     keys: &mut [u64],
     kinds: &mut [u64],
     places: &mut [u64],
 ) -> ElementRead
-    ensures { λ r. ⌜ elementParsed r ≡ making nodeElement (nodeAfter (now (s .entry)) total id at) ⌝ }
+    ensures { λ r. ⌜ elementParsed r ≡ making nodeElement (nodeAfter limit (now (s .entry)) total id at) ⌝ }
     ensures { λ r. ⌜ ((n : Node) (m : ℕ)
-        → nodeAfter (now (s .entry)) total id at ≡ done n m
+        → nodeAfter limit (now (s .entry)) total id at ≡ done n m
         → _≡_ {A = Rows}
         (record { keys = now (keys .exit); kinds = now (kinds .exit); places = now (places .exit) })
         (filled (record { keys = now (keys .entry); kinds = now (kinds .entry); places = now (places .entry) }) total (map nodeRow (nodeEntriesOf n)))) ⌝ }
@@ -155,7 +161,18 @@ fn node_after(
             match n {
                 ByteRead::Byte(count, b) => {
                     let code = kind as u64 * 2 + 1;
-                    let rest = instances_at(s, b, id, code, count, total, keys, kinds, places);
+                    let rest = instances_at(
+                        s,
+                        b,
+                        id,
+                        code,
+                        count,
+                        total,
+                        limit,
+                        keys,
+                        kinds,
+                        places,
+                    );
                     match rest {
                         NextRead::Next(end) => ElementRead::Element(id, count, end),
                         NextRead::Refused(r) => ElementRead::Refused(r),
@@ -174,6 +191,7 @@ fn rising_node_at(
     at: usize,
     bound: u64,
     total: usize,
+    limit: usize,
     keys: &mut [u64],
     kinds: &mut [u64],
     places: &mut [u64],
@@ -181,13 +199,13 @@ fn rising_node_at(
     ensures { λ r. ⌜ ((before : List Node)
         → Below bound (map nodeId before)
         → total ≡ nodeTotal before
-        → ElementTold bound r (making nodeElement (nodeAt (now (s .entry)) true before at))) ⌝ }
+        → ElementTold bound r (making nodeElement (nodeAt limit (now (s .entry)) true before at))) ⌝ }
     ensures { λ r. ⌜ ((before : List Node)
         → Below bound (map nodeId before)
         → total ≡ nodeTotal before
         → ElementUnless r
         ((n : Node) (m : ℕ)
-        → nodeAt (now (s .entry)) true before at ≡ done n m
+        → nodeAt limit (now (s .entry)) true before at ≡ done n m
         → _≡_ {A = Rows}
         (record { keys = now (keys .exit); kinds = now (kinds .exit); places = now (places .exit) })
         (filled (record { keys = now (keys .entry); kinds = now (kinds .entry); places = now (places .entry) }) total (map nodeRow (nodeEntriesOf n))))
@@ -198,7 +216,7 @@ fn rising_node_at(
     let i = rising_id_at(s, at, Width::Two, bound);
     match i {
         RisingId::Id(id, a) => {
-            let e = node_after(s, a, id, total, keys, kinds, places);
+            let e = node_after(s, a, id, total, limit, keys, kinds, places);
             match e {
                 ElementRead::Element(_, count, next) => RisingElement::Element(id, count, next),
                 ElementRead::Refused(r) => RisingElement::Refused(r),
@@ -214,13 +232,14 @@ fn rising_rows_at(
     s: &[u8],
     at: usize,
     n: u64,
+    limit: usize,
     keys: &mut [u64],
     kinds: &mut [u64],
     places: &mut [u64],
 ) -> RisingCount
-    ensures { λ r. ⌜ CountTold r (making nodeTotal (rowAt (nodeAt (now (s .entry)) true) n [] at)) ⌝ }
+    ensures { λ r. ⌜ CountTold r (making nodeTotal (rowAt (nodeAt limit (now (s .entry)) true) n [] at)) ⌝ }
     ensures { λ r. ⌜ ((ns : List Node) (m : ℕ)
-        → rowAt (nodeAt (now (s .entry)) true) n [] at ≡ done ns m
+        → rowAt (nodeAt limit (now (s .entry)) true) n [] at ≡ done ns m
         → CountUnless r
         (_≡_ {A = Rows}
         (record { keys = now (keys .exit); kinds = now (kinds .exit); places = now (places .exit) })
@@ -233,7 +252,7 @@ fn rising_rows_at(
     let mut left = n;
     let mut place = at;
     while 0 < left {
-        let e = rising_node_at(s, place, bound, total, keys, kinds, places);
+        let e = rising_node_at(s, place, bound, total, limit, keys, kinds, places);
         match e {
             RisingElement::Element(id, count, next) => {
                 bound = id + 1;
@@ -258,18 +277,20 @@ fn indexed_rows_at(
     s: &[u8],
     at: usize,
     n: u64,
+    limit: usize,
     keys: &mut [u64],
     kinds: &mut [u64],
     places: &mut [u64],
 ) -> CountRead
-    ensures { λ r. ⌜ countParsed r ≡ making nodeTotal (rowAt (nodeAt (now (s .entry)) true) n [] at) ⌝ }
+    requires { ⌜ limit ≤ libraryLimits .nodeInstances ⌝ }
+    ensures { λ r. ⌜ countParsed r ≡ making nodeTotal (rowAt (nodeAt limit (now (s .entry)) true) n [] at) ⌝ }
     ensures { λ r. ⌜ ((ns : List Node) (m : ℕ)
-        → rowAt (nodeAt (now (s .entry)) true) n [] at ≡ done ns m
+        → rowAt (nodeAt limit (now (s .entry)) true) n [] at ≡ done ns m
         → _≡_ {A = Rows}
         (record { keys = now (keys .exit); kinds = now (kinds .exit); places = now (places .exit) })
         (filled (record { keys = now (keys .entry); kinds = now (kinds .entry); places = now (places .entry) }) 0 (map nodeRow (gathered nodeEntriesOf ns)))) ⌝ }
 {
-    let mut ids = [0u64; format::NODE_LIMIT];
+    let mut ids = [0u64; limits::NODE_INSTANCES];
     let mut index = [0u16; NODE_PLACES];
     let mut known = 0;
     let mut entered = 0;
@@ -286,6 +307,7 @@ fn indexed_rows_at(
             entered,
             largest,
             total,
+            limit,
             keys,
             kinds,
             places,
@@ -313,35 +335,39 @@ fn rows_at(
     s: &[u8],
     at: usize,
     n: u64,
+    limit: usize,
     keys: &mut [u64],
     kinds: &mut [u64],
     places: &mut [u64],
 ) -> CountRead
-    ensures { λ r. ⌜ countParsed r ≡ making nodeTotal (rowAt (nodeAt (now (s .entry)) true) n [] at) ⌝ }
+    requires { ⌜ limit ≤ libraryLimits .nodeInstances ⌝ }
+    ensures { λ r. ⌜ countParsed r ≡ making nodeTotal (rowAt (nodeAt limit (now (s .entry)) true) n [] at) ⌝ }
     ensures { λ r. ⌜ ((ns : List Node) (m : ℕ)
-        → rowAt (nodeAt (now (s .entry)) true) n [] at ≡ done ns m
+        → rowAt (nodeAt limit (now (s .entry)) true) n [] at ≡ done ns m
         → _≡_ {A = Rows}
         (record { keys = now (keys .exit); kinds = now (kinds .exit); places = now (places .exit) })
         (filled (record { keys = now (keys .entry); kinds = now (kinds .entry); places = now (places .entry) }) 0 (map nodeRow (gathered nodeEntriesOf ns)))) ⌝ }
 {
-    let r = rising_rows_at(s, at, n, keys, kinds, places);
+    let r = rising_rows_at(s, at, n, limit, keys, kinds, places);
     match r {
         RisingCount::Read(c) => c,
-        RisingCount::Falls => indexed_rows_at(s, at, n, keys, kinds, places),
+        RisingCount::Falls => indexed_rows_at(s, at, n, limit, keys, kinds, places),
     }
 }
 
-// The nodes section, with the rows of all node instances from the front of the tables on. It reads the section once, and again from its first node on where an ID falls.
-pub fn nodes_at(
+// The nodes section of a file that may have `limit` node instances, with the rows of all node instances from the front of the tables on.
+fn section_at(
     s: &[u8],
     at: usize,
+    limit: usize,
     keys: &mut [u64],
     kinds: &mut [u64],
     places: &mut [u64],
 ) -> SectionRead
-    ensures { λ r. ⌜ sectionParsed r ≡ making nodeSection (nodesAt (now (s .entry)) true at) ⌝ }
+    requires { ⌜ limit ≤ libraryLimits .nodeInstances ⌝ }
+    ensures { λ r. ⌜ sectionParsed r ≡ making nodeSection (nodesAt limit (now (s .entry)) true at) ⌝ }
     ensures { λ r. ⌜ ((ns : List Node) (m : ℕ)
-        → nodesAt (now (s .entry)) true at ≡ done ns m
+        → nodesAt limit (now (s .entry)) true at ≡ done ns m
         → _≡_ {A = Rows}
         (record { keys = now (keys .exit); kinds = now (kinds .exit); places = now (places .exit) })
         (filled (record { keys = now (keys .entry); kinds = now (kinds .entry); places = now (places .entry) }) 0 (map nodeRow (gathered nodeEntriesOf ns)))) ⌝ }
@@ -352,7 +378,7 @@ pub fn nodes_at(
             let c = number_count_at(s, a, Width::Two);
             match c {
                 NumberRead::Number(n, b) => {
-                    let rows = rows_at(s, b, n, keys, kinds, places);
+                    let rows = rows_at(s, b, n, limit, keys, kinds, places);
                     match rows {
                         CountRead::Count(total, end) => SectionRead::Section(
                             n as usize,
@@ -367,4 +393,23 @@ pub fn nodes_at(
         }
         NextRead::Refused(r) => SectionRead::Refused(r),
     }
+}
+
+// The nodes section, with the rows of all node instances from the front of the tables on. It reads the section once, and again from its first node on where an ID falls.
+pub fn nodes_at(
+    s: &[u8],
+    at: usize,
+    of: LimitSet,
+    keys: &mut [u64],
+    kinds: &mut [u64],
+    places: &mut [u64],
+) -> SectionRead
+    ensures { λ r. ⌜ sectionParsed r ≡ making nodeSection (nodesAt (limitsOf of .nodeInstances) (now (s .entry)) true at) ⌝ }
+    ensures { λ r. ⌜ ((ns : List Node) (m : ℕ)
+        → nodesAt (limitsOf of .nodeInstances) (now (s .entry)) true at ≡ done ns m
+        → _≡_ {A = Rows}
+        (record { keys = now (keys .exit); kinds = now (kinds .exit); places = now (places .exit) })
+        (filled (record { keys = now (keys .entry); kinds = now (kinds .entry); places = now (places .entry) }) 0 (map nodeRow (gathered nodeEntriesOf ns)))) ⌝ }
+{
+    section_at(s, at, node_instances(of), keys, kinds, places)
 }

@@ -11,7 +11,7 @@ use lib.ListN.{length, getD}
 use borrow.Author.Tests.{eq-eqb, ne-eqb, le-ltb, lt-ltb}
 use Rattle.numbers.proofs.Bools.{clash}
 use Rattle.format.specs.ExpressionLayout.{exprAt}
-use Rattle.format.specs.Limits.{levels}
+use Rattle.limits.specs.Limits.{levels}
 use Rattle.format.specs.Lookup.{some, at, gathered, NodeEntry}
 use Rattle.format.specs.Parsed.{done}
 use Rattle.format.specs.References.{Fault}

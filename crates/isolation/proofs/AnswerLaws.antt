@@ -5,6 +5,8 @@ use mathlib.Core.List.{List, [], _∷_, _++_, map}
 use mathlib.Core.Path.{_≡_, refl, sym, _∙_, ap, subst}
 use native.Mathlib.Omega.{arith}
 use lib.ListN.{length, getD, drop}
+use Rattle.limits.specs.Limits.{libraryLimits, limitsOf}
+use Rattle.limits.specs.declared.LimitSet.{LimitSet}
 use Rattle.numbers.specs.BigEndian.{Bytes}
 use Rattle.graph.specs.Chains.{reachedCount}
 use Rattle.format.specs.Fields.{knownAttention}
@@ -47,9 +49,9 @@ key-number : (id number : ℕ) → number < 256 → keyNumber (keyOf id number) 
 unfolding keyNumber keyOf
 key-number id number hn = omega arith
 
-pub keys-tell : (c : Chip) → Meets c → (nodes : List ℕ) → nodes ≡ nodeKeys c → (i : ℕ) (e : NodeEntry) → at i (nodeEntries c) ≡ e ∷ []
+pub keys-tell : (of : LimitSet) (c : Chip) → Meets (limitsOf of) c → (nodes : List ℕ) → nodes ≡ nodeKeys c → (i : ℕ) (e : NodeEntry) → at i (nodeEntries c) ≡ e ∷ []
     → (keyId (getD nodes i 0) ≡ e .id) × (keyNumber (getD nodes i 0) ≡ e .instance .number)
-keys-tell c m nodes n i e q =
+keys-tell of c m nodes n i e q =
     let k : getD nodes i 0 ≡ keyOf (e .id) (e .instance .number) = ap (λ t. getD t i 0) n ∙ column-at (λ e. keyOf (e .id) (e .instance .number)) (nodeEntries c) i q in
     let h : e .id < 65536 = every-at (λ e. e .id < 256 ^ 2) i (nodeEntries c) (nodes-fit c (m .fields)) q in
     let g = every-at _ i (nodeEntries c) (m .fields .nodeInstances) q in
@@ -57,7 +59,7 @@ keys-tell c m nodes n i e q =
 
 -- The marks of a walk that has come to its end.
 module _ (act ch : List ℕ) (root : ℕ) (marks : List ℕ) (marks-are : marks ≡ finished (tableGraph act ch) root .marks) where
-  marks-done : root < tableGraph act ch .size → tableGraph act ch .size ≤ 256 → DoneReached (tableGraph act ch) root marks
+  marks-done : root < tableGraph act ch .size → tableGraph act ch .size ≤ libraryLimits .nodeInstances → DoneReached (tableGraph act ch) root marks
   marks-done h l = subst (DoneReached (tableGraph act ch) root) (sym marks-are) (finished-done (tableGraph act ch) root h l)
 
 -- What is answered of the room.
@@ -79,20 +81,20 @@ room-no k bytes {count} e = go (hasRoom k bytes) e
 
 -- The answer
 
-module _ (file : List ℕ) (attention : ℕ) (words read list : List ℕ) where
+module _ (of : LimitSet) (file : List ℕ) (attention : ℕ) (words read list : List ℕ) where
   -- 1 to 14
-  pub file-refused : {n p : ℕ} → verdict file ≡ refused n p → refusedOutcome n p list ≡ isolate file attention words read list
+  pub file-refused : {n p : ℕ} → verdict (limitsOf of) file ≡ refused n p → refusedOutcome n p list ≡ isolate (limitsOf of) file attention words read list
   unfolding isolate isolateIn
   file-refused e = rw e
 
-  module _ (c : Chip) (end : ℕ) (accepted : verdict file ≡ done c end) where
+  module _ (c : Chip) (end : ℕ) (accepted : verdict (limitsOf of) file ≡ done c end) where
     -- 15
-    pub type-refused : knownAttention attention ≡ false → refusedOutcome 15 0 list ≡ isolate file attention words read list
+    pub type-refused : knownAttention attention ≡ false → refusedOutcome 15 0 list ≡ isolate (limitsOf of) file attention words read list
     unfolding isolate isolateIn
     type-refused k = rw (accepted, k)
 
     -- 16
-    pub root-refused : knownAttention attention ≡ true → rootFor attention c ≡ [] → refusedOutcome 16 0 list ≡ isolate file attention words read list
+    pub root-refused : knownAttention attention ≡ true → rootFor attention c ≡ [] → refusedOutcome 16 0 list ≡ isolate (limitsOf of) file attention words read list
     unfolding isolate isolateIn fromRoot
     root-refused k r = rw (accepted, k, r)
 
@@ -102,7 +104,7 @@ module _ (file : List ℕ) (attention : ℕ) (words read list : List ℕ) where
 
     module _ (known : knownAttention attention ≡ true) (t : Root) (ts : List Root) (rooted : rootFor attention c ≡ t ∷ ts) (m : ℕ) (m-is : m ≡ length (registerEntries c)) where
       -- 17
-      pub readings-refused : fitting m words read ≡ false → refusedOutcome 17 0 list ≡ isolate file attention words read list
+      pub readings-refused : fitting m words read ≡ false → refusedOutcome 17 0 list ≡ isolate (limitsOf of) file attention words read list
       unfolding isolate isolateIn fromRoot
       readings-refused f = rw (accepted, known, rooted, sym (fitting-is m m-is) ∙ f)
 
@@ -112,11 +114,11 @@ module _ (file : List ℕ) (attention : ℕ) (words read list : List ℕ) where
           (ch-is : ch ≡ childColumn c ++ rest)
           (unread : List ℕ) (unread-is : (i : ℕ) (e : NodeEntry) → at i (nodeEntries c) ≡ e ∷ [] → getD unread i 0 ≡ unreadPlace (registerKeys c) read attention e)
           (marks : List ℕ) (marks-are : marks ≡ finished (tableGraph act ch) root .marks) (n : ℕ) (n-is : n ≡ length (nodeEntries c)) where
-        whole : verdict file ≡ done c (length file)
-        whole = accepted ∙ ap (done c) (read-to-end file bytes accepted)
+        whole : verdict (limitsOf of) file ≡ done c (length file)
+        whole = accepted ∙ ap (done c) (read-to-end (limitsOf of) file bytes accepted)
 
-        meets : Meets c
-        meets = acceptance file bytes c .0 whole .2
+        meets : Meets (limitsOf of) c
+        meets = acceptance (limitsOf of) file bytes c .0 whole .2
 
         inside : root < length (nodeEntries c)
         unfolding rootFor
@@ -125,50 +127,50 @@ module _ (file : List ℕ) (attention : ℕ) (words read list : List ℕ) where
             subst (λ x. x < length (nodeEntries c)) (sym root-is) (root-inside c (meets .present) _ (f .0))
 
         inside-tables : root < tableGraph act ch .size
-        inside-tables = root-in-tables c meets attention words read act ch rest act-is ch-is root inside
+        inside-tables = root-in-tables of c meets attention words read act ch rest act-is ch-is root inside
 
         size : tableGraph act ch .size ≡ length (nodeEntries c)
         unfolding tableGraph
-        size = act-size c meets attention words read act ch rest act-is ch-is
+        size = act-size of c meets attention words read act ch rest act-is ch-is
 
         reached : DoneReached (tableGraph act ch) root marks
-        reached = marks-done act ch root marks marks-are inside-tables (omega (arith, size, entries-few c meets))
+        reached = marks-done act ch root marks marks-are inside-tables (omega (arith, size, entries-few of c meets))
 
-        isolate-is : isolate file attention words read list
+        isolate-is : isolate (limitsOf of) file attention words read list
             ≡ allRead (reachedUnread c attention read (chipGraph c attention words read) root) list (outcome.listOutcome c attention (chipGraph c attention words read) root list)
         unfolding isolate isolateIn fromRoot
         isolate-is = rw (accepted, known, rooted, sym (fitting-is m m-is) ∙ fit, root-is)
 
         -- 18
-        pub unread-refused : {p : ℕ} → p ≡ firstUnread marks unread n → (p ≡ 0 → ⊥) → refusedOutcome 18 p list ≡ isolate file attention words read list
+        pub unread-refused : {p : ℕ} → p ≡ firstUnread marks unread n → (p ≡ 0 → ⊥) → refusedOutcome 18 p list ≡ isolate (limitsOf of) file attention words read list
         unread-refused d e =
-            sym (isolate-is ∙ unread-some file bytes c whole attention words read act ch rest act-is ch-is root inside marks reached unread unread-is n n-is d e list _)
+            sym (isolate-is ∙ unread-some of file bytes c whole attention words read act ch rest act-is ch-is root inside marks reached unread unread-is n n-is d e list _)
 
         -- Every register is read. The code's answer about the list decides.
         module _ (valued : firstUnread marks unread n ≡ 0) (nodes : List ℕ) (nodes-are : nodes ≡ nodeKeys c) (l : Listing) (l-is : listingValues l ≡ listingFor (length (tableLinks marks act ch)) (length list)) where
-          written-is : isolate file attention words read list ≡ outcome.listOutcome c attention (chipGraph c attention words read) root list
+          written-is : isolate (limitsOf of) file attention words read list ≡ outcome.listOutcome c attention (chipGraph c attention words read) root list
           unfolding allRead
           written-is =
               isolate-is
-              ∙ rw (unread-none file bytes c whole attention words read act ch rest act-is ch-is root inside marks reached unread unread-is n n-is valued)
+              ∙ rw (unread-none of file bytes c whole attention words read act ch rest act-is ch-is root inside marks reached unread unread-is n n-is valued)
 
           listing-is : tableLinks marks act ch ≡ listing (chipGraph c attention words read) root
           unfolding tableGraph tableLinks
-          listing-is = rows-listing (tableGraph act ch) root marks reached ∙ tables-listing c meets attention words read act ch rest act-is ch-is root inside
+          listing-is = rows-listing (tableGraph act ch) root marks reached ∙ tables-listing of c meets attention words read act ch rest act-is ch-is root inside
 
           records-are : tableRecords attention nodes marks act ch ≡ recordsOf c attention (listing (chipGraph c attention words read) root)
           unfolding tableRecords
           records-are =
-              rows-records-listing (tableGraph act ch) root marks reached c attention nodes size (keys-tell c meets nodes nodes-are) (tableSize act)
-              (act-size c meets attention words read act ch rest act-is ch-is)
-              ∙ ap (recordsOf c attention) (tables-listing c meets attention words read act ch rest act-is ch-is root inside)
+              rows-records-listing (tableGraph act ch) root marks reached c attention nodes size (keys-tell of c meets nodes nodes-are) (tableSize act)
+              (act-size of c meets attention words read act ch rest act-is ch-is)
+              ∙ ap (recordsOf c attention) (tables-listing of c meets attention words read act ch rest act-is ch-is root inside)
 
           l-room : listingValues l ≡ listingFor (length (listing (chipGraph c attention words read) root)) (length list)
           l-room = l-is ∙ ap (λ x. listingFor (length x) (length list)) listing-is
 
           -- 19
           pub room-refused : {count : ℕ} → l ≡ Listing.NoRoom count → {new : List ℕ} → new ≡ listAfter attention nodes marks act ch list
-              → refusedOutcome 19 count new ≡ isolate file attention words read list
+              → refusedOutcome 19 count new ≡ isolate (limitsOf of) file attention words read list
           unfolding outcome.listOutcome listAfter hasRoom
           room-refused e {new} d =
               let r = room-no _ _ (sym (ap listingValues e) ∙ l-room) in
@@ -177,7 +179,7 @@ module _ (file : List ℕ) (attention : ℕ) (words read list : List ℕ) where
 
           -- Success
           pub all-written : {count : ℕ} → l ≡ Listing.Written count → {new : List ℕ} → new ≡ listAfter attention nodes marks act ch list
-              → doneOutcome count (finished (tableGraph act ch) root .steps) new ≡ isolate file attention words read list
+              → doneOutcome count (finished (tableGraph act ch) root .steps) new ≡ isolate (limitsOf of) file attention words read list
           unfolding outcome.listOutcome recordSize chipGraph listAfter hasRoom
           all-written {count} e {new} d =
               let r = room-yes _ _ (sym (ap listingValues e) ∙ l-room) in
@@ -186,5 +188,5 @@ module _ (file : List ℕ) (attention : ℕ) (words read list : List ℕ) where
               d ∙ rw (listing-is, r .1, records-are)
               (ap (λ x. recordsOf c attention ls ++ drop x list) (listing-length c attention (chipGraph c attention words read) root refl)) in
               let s : finished (tableGraph act ch) root .steps ≡ reachedCount (chipGraph c attention words read) root =
-              steps-reached (tableGraph act ch) root inside-tables ∙ tables-count c meets attention words read act ch rest act-is ch-is root inside in
+              steps-reached (tableGraph act ch) root inside-tables ∙ tables-count of c meets attention words read act ch rest act-is ch-is root inside in
               sym (written-is ∙ rw (r .1, b, s, r .0))

@@ -21,7 +21,7 @@ use Rattle.format.proofs.FaultsLaws.{some-none, at-none, below?}
 use Rattle.format.proofs.PositionsLaws.{every-at, at-inside, position-at}
 use Rattle.isolation.specs.Readings.{wordFor}
 use Rattle.format.specs.Finding.{childFor}
-use Rattle.format.specs.Limits.{levels}
+use Rattle.limits.specs.Limits.{levels}
 use Rattle.format.proofs.FindingLaws.{child-inside}
 use Rattle.isolation.specs.ChipGraph.{ruleUnread, isNone, ruleActive, entryActive, entryChild, chipGraph}
 

@@ -8,6 +8,9 @@ use native.Mathlib.Omega.{arith}
 use lib.Dec.{leb, eqb}
 use lib.ListN.{length, take, replicate}
 use borrow.Author.Tests.{le-leb, lt-leb, leb-true, eq-eqb, eqb-true}
+use Rattle.limits.specs.Limits.{Limits, limitsOf}
+use Rattle.limits.specs.Classes.{Class}
+use Rattle.limits.specs.declared.LimitSet.{LimitSet}
 use Rattle.numbers.specs.BigEndian.{Bytes}
 use Rattle.numbers.proofs.Bools.{clash, and-left, and-right}
 use Rattle.format.specs.declared.Refusal.{Refusal}
@@ -93,9 +96,9 @@ module _ (m n keys nodes places active unread : ℕ) where
       ap (λ b. cond b x s) (sym z)
 
 -- The tables of the reader, cut to the file's instances.
-abbrev pub cut-tabled : (file : List ℕ) (l : Layout) (keys index names places child : List ℕ) → Examined file l keys index names places child
-    → Tabled file (take (l .«register_instances») keys) index (take (l .«node_instances») names) (take (l .«node_instances») places) child
-cut-tabled file l keys index names places child x =
+abbrev pub cut-tabled : (of : LimitSet) (file : List ℕ) (l : Layout) (keys index names places child : List ℕ) → Examined of file l keys index names places child
+    → Tabled of file (take (l .«register_instances») keys) index (take (l .«node_instances») names) (take (l .«node_instances») places) child
+cut-tabled of file l keys index names places child x =
     record {
       chip = x .chip;
       end = x .end;
@@ -110,53 +113,53 @@ cut-tabled file l keys index names places child x =
 
 -- Isolation in lent tables
 
-module _ (t : Lengths) (file : List ℕ) (unread : ℕ) (x s : Outcome) where
+module _ (of : LimitSet) (t : Lengths) (file : List ℕ) (unread : ℕ) (x s : Outcome) where
   abbrev Given : Outcome → Type 0
-  Given o = o ≡ cond (roomIn t unread file) x s
+  Given o = o ≡ cond (roomIn (limitsOf of) t unread file) x s
 
   pub unread-short : unread < t .names → Given s
   unfolding roomIn
   unread-short h = rw (lt-leb _ _ h)
 
-  module _ (long : t .names ≤ unread) (r : LayoutRead) (is : making layoutValues (layoutParsed r) ≡ cond (roomFor t file) (making countsOf (verdict file)) (refused 43 0)) where
-    given : (b : Bool) → roomFor t file ≡ b → {o : Outcome} → o ≡ cond b x s → Given o
+  module _ (long : t .names ≤ unread) (r : LayoutRead) (is : making layoutValues (layoutParsed r) ≡ cond (roomFor (limitsOf of) t file) (making countsOf (verdict (limitsOf of) file)) (refused 43 0)) where
+    given : (b : Bool) → roomFor (limitsOf of) t file ≡ b → {o : Outcome} → o ≡ cond b x s → Given o
     unfolding roomIn
     given b e d = rw (le-leb _ _ long, e) d
 
-    pub given-answer : {l : Layout} → r ≡ LayoutRead.Done l → {keys index names places child : List ℕ} → Examined file l keys index names places child → (wanted : ℕ) → wanted ≡ t .wanted → {o : Outcome}
+    pub given-answer : {l : Layout} → r ≡ LayoutRead.Done l → {keys index names places child : List ℕ} → Examined of file l keys index names places child → (wanted : ℕ) → wanted ≡ t .wanted → {o : Outcome}
         → o ≡ cond (bothFit (l .«node_instances») wanted unread) x s → Given o
     unfolding bothFit
     given-answer {l} e y wanted same d =
-        let room = done-room t file is e in
-        let z = roomy t (l .«register_instances») (l .«node_instances») (sym room ∙ room-laid t file (y .whole)) in
+        let room = done-room of t file is e in
+        let z = roomy t (l .«register_instances») (l .«node_instances») (sym room ∙ room-laid of t file (y .whole)) in
         let a : l .«node_instances» ≤ wanted = omega (arith, z .wanted) in
         let b : l .«node_instances» ≤ unread = omega (arith, z .names, long) in
         given true room (d ∙ rw (le-leb _ _ a, le-leb _ _ b))
 
     pub given-refused : {y : Refusal} → r ≡ LayoutRead.Refused y → {list : List ℕ} → s ≡ refusedOutcome 43 0 list
-        → (verdict file ≡ refused (numberOf (y .kind)) (y .place) → refusedOutcome (numberOf (y .kind)) (y .place) list ≡ x) → Given (refusedOutcome (numberOf (y .kind)) (y .place) list)
+        → (verdict (limitsOf of) file ≡ refused (numberOf (y .kind)) (y .place) → refusedOutcome (numberOf (y .kind)) (y .place) list ≡ x) → Given (refusedOutcome (numberOf (y .kind)) (y .place) list)
     given-refused e {list} short exact =
         ⊎-elim
         (λ z. given true (z .0) (exact (z .1)))
         (λ z. given false (z .0) (rw (z .1, z .2) (sym short)))
-        (refused-room t file is e)
+        (refused-room of t file is e)
 
 -- A class of tables
 
-pub class-outcome : (m n : ℕ) (file : List ℕ) {o : Outcome} (x s : Outcome)
-    → o ≡ cond (roomIn (lengthsOf (replicate m 0) (replicate m 0) (replicate n 0) (replicate n 0) (replicate n 0) (replicate (n * 64) 0)) (length (replicate {A = ℕ} n 0)) file) x s
-    → o ≡ cond (roomFor (classRoom m n) file) x s
+pub class-outcome : (limits : Limits) (k : Class) (file : List ℕ) {o : Outcome} (x s : Outcome)
+    → o ≡ cond (roomIn limits (lengthsOf (replicate (k .registers) 0) (replicate (k .registers) 0) (replicate (k .nodes) 0) (replicate (k .nodes) 0) (replicate (k .nodes) 0) (replicate (k .nodes * 64) 0)) (length (replicate {A = ℕ} (k .nodes) 0)) file) x s
+    → o ≡ cond (roomFor limits (classRoom k) file) x s
 unfolding roomIn
-class-outcome m n file {o} x s e =
-    let h : leb (length (replicate {A = ℕ} n 0)) (length (replicate {A = ℕ} n 0)) ≡ true = le-leb _ _ (let z : length (replicate {A = ℕ} n 0) ≤ length (replicate {A = ℕ} n 0) = omega arith in z) in
-    e ∙ ap (λ b. cond (b && roomFor (lengthsOf (replicate m 0) (replicate m 0) (replicate n 0) (replicate n 0) (replicate n 0) (replicate (n * 64) 0)) file) x s) h
-    ∙ ap (λ t. cond (roomFor t file) x s) (class-lengths m n)
+class-outcome limits k file {o} x s e =
+    let h : leb (length (replicate {A = ℕ} (k .nodes) 0)) (length (replicate {A = ℕ} (k .nodes) 0)) ≡ true = le-leb _ _ (let z : length (replicate {A = ℕ} (k .nodes) 0) ≤ length (replicate {A = ℕ} (k .nodes) 0) = omega arith in z) in
+    e ∙ ap (λ b. cond (b && roomFor limits (lengthsOf (replicate (k .registers) 0) (replicate (k .registers) 0) (replicate (k .nodes) 0) (replicate (k .nodes) 0) (replicate (k .nodes) 0) (replicate (k .nodes * 64) 0)) file) x s) h
+    ∙ ap (λ t. cond (roomFor limits t file) x s) (class-lengths k)
 
 -- An answer of a class that is not 43 is exact; after 43 the list is as it was.
-module _ (r : Isolated) (t : Lengths) (file : List ℕ) (after list : List ℕ) (x : Outcome) (is : outcomeOf r after ≡ cond (roomFor t file) x (refusedOutcome 43 0 list)) where
+module _ (limits : Limits) (r : Isolated) (t : Lengths) (file : List ℕ) (after list : List ℕ) (x : Outcome) (is : outcomeOf r after ≡ cond (roomFor limits t file) x (refusedOutcome 43 0 list)) where
   pub class-exact : isExact r ≡ true → outcomeOf r after ≡ x
   unfolding isExact
-  class-exact h = go r (roomFor t file) is h
+  class-exact h = go r (roomFor limits t file) is h
     where
       go : (r : Isolated) (b : Bool) → outcomeOf r after ≡ cond b x (refusedOutcome 43 0 list) → isExact r ≡ true → outcomeOf r after ≡ x
       go r true e h = e
@@ -165,7 +168,7 @@ module _ (r : Isolated) (t : Lengths) (file : List ℕ) (after list : List ℕ) 
 
   pub class-kept : (x .number ≡ 43 → ⊥) → isExact r ≡ false → after ≡ list
   unfolding isExact
-  class-kept n h = go r (roomFor t file) is h
+  class-kept n h = go r (roomFor limits t file) is h
     where
       shorter : (b : Bool) → not b ≡ false → b ≡ true
       shorter true e = refl
@@ -176,14 +179,15 @@ module _ (r : Isolated) (t : Lengths) (file : List ℕ) (after list : List ℕ) 
       go (Isolated.Refused y) true e h = absurd (n (sym (ap (λ o. o .number) e) ∙ eqb-true _ 43 (shorter (eqb (numberOf (y .kind)) 43) h)))
       go (Isolated.Refused y) false e h = ap (λ o. o .list) e
 
--- A class for as many instances as a file may have never is too short.
-pub full-outcome : (file : List ℕ) → Bytes file → {o : Outcome} (x s : Outcome) → o ≡ cond (roomFor (classRoom 1024 256) file) x s → o ≡ x
-full-outcome file bytes x s e = e ∙ ap (λ b. cond b x s) (full-room file bytes)
+-- A class for as many instances as the limits let a file have never is too short.
+pub full-outcome : (limits : Limits) (k : Class) → limits .registerInstances ≤ k .registers → limits .nodeInstances ≤ k .nodes → (file : List ℕ) → Bytes file → {o : Outcome} (x s : Outcome)
+    → o ≡ cond (roomFor limits (classRoom k) file) x s → o ≡ x
+full-outcome limits k registers nodes file bytes x s e = e ∙ ap (λ b. cond b x s) (full-room limits k registers nodes file bytes)
 
 -- Isolation never answers 43.
-pub isolate-number : (file : List ℕ) (attention : ℕ) (words read list : List ℕ) → isolate file attention words read list .number ≡ 43 → ⊥
-isolate-number file attention words read list e =
+pub isolate-number : (limits : Limits) (file : List ℕ) (attention : ℕ) (words read list : List ℕ) → isolate limits file attention words read list .number ≡ 43 → ⊥
+isolate-number limits file attention words read list e =
     ⊎-elim
     (λ r. let z : r .number ≡ 43 = sym (ap (λ o. o .number) (r .is)) ∙ e in omega (arith, r .high))
-    (λ s. let z : _≡_ {A = ℕ} 0 43 = sym (ap (λ o. o .number) (succeeds-in file attention words read list s)) ∙ e in omega arith)
-    (outcome-cases file attention words read list)
+    (λ s. let z : _≡_ {A = ℕ} 0 43 = sym (ap (λ o. o .number) (succeeds-in limits file attention words read list s)) ∙ e in omega arith)
+    (outcome-cases limits file attention words read list)

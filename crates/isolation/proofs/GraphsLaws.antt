@@ -21,7 +21,7 @@ use Rattle.format.specs.Tree.{Chip}
 use Rattle.format.proofs.EveryLaws.{every-all, every-map, every-append-in, every-gathered-in, every-list-in}
 use Rattle.format.proofs.GatheredLaws.{gathered-one, gathered-map, gathered-gathered, gathered-same}
 use Rattle.format.proofs.PositionsLaws.{at-inside}
-use Rattle.walk.specs.Marks.{finished}
+use Rattle.walk.specs.Marks.{markCount, finished}
 use Rattle.walk.proofs.Step.{getD-tabulate}
 use Rattle.walk.proofs.WalkLaws.{reached-inside}
 use Rattle.listing.specs.Records.{recordOf, recordBytes, listing, linkRecord, recordsOf}
@@ -170,9 +170,9 @@ abbrev pub DoneReached : Graph → ℕ → List ℕ → Type 0
 DoneReached g root m = (i : ℕ) → i < g .size → (getD m i 0 ≡ 2) ↔ (reachedFrom g root i ≡ true)
 
 -- The walk ends with such marks.
-pub finished-done : (g : Graph) (root : ℕ) → root < g .size → g .size ≤ 256 → DoneReached g root (finished g root .marks)
+pub finished-done : (g : Graph) (root : ℕ) → root < g .size → g .size ≤ markCount → DoneReached g root (finished g root .marks)
 unfolding finished
-finished-done g root h l i k = rw (lt-ltb root _ h, getD-tabulate 256 _ i (omega arith)) (go (reachedFrom g root i))
+finished-done g root h l i k = rw (lt-ltb root _ h, getD-tabulate markCount _ i (omega arith)) (go (reachedFrom g root i))
   where
     other : (t : Bool) → _≡_ {A = ℕ} (cond t 1 0) 2 → false ≡ true
     other true d = absurd (omega arith)

@@ -7,6 +7,7 @@ use mathlib.Core.Path.{_≡_, refl, _∙_, ap}
 use native.Mathlib.Omega.{arith}
 use lib.Dec.{leb}
 use lib.ListN.{length, drop}
+use Rattle.limits.specs.Limits.{Limits}
 use Rattle.graph.specs.Chains.{Graph, below, reachedFrom, reachedCount}
 use Rattle.format.specs.Fields.{knownAttention}
 use Rattle.format.specs.Lookup.{at, gathered, nodeEntries, nodePosition}
@@ -83,14 +84,14 @@ unfolding allRead Every
 read-cases [] list o h = inr (refl, refl)
 read-cases (f ∷ fs) list o h = inl (refusal (f .number) (f .place) list (omega (arith, h .0)) (omega (arith, h .0)))
 
-module _ (file : List ℕ) (attention : ℕ) (words read list : List ℕ) where
+module _ (limits : Limits) (file : List ℕ) (attention : ℕ) (words read list : List ℕ) where
   -- The file's tree, its root for the wanted type, and all that refusals 15 to 19 ask.
   pub record Succeeds : Type 0 where
     pub chip : Chip
     pub end : ℕ
     pub root : Root
     pub roots : List Root
-    pub accepted : verdict file ≡ done chip end
+    pub accepted : verdict limits file ≡ done chip end
     pub known : knownAttention attention ≡ true
     pub rooted : rootFor attention chip ≡ root ∷ roots
     pub fit : readingsFit chip words read ≡ true
@@ -100,13 +101,13 @@ module _ (file : List ℕ) (attention : ℕ) (words read list : List ℕ) where
   pub succeeds-in : (s : Succeeds)
       → (let g = chipGraph (s .chip) attention words read in
       let ls = listing g (nodePosition (s .chip) (s .root .id) (s .root .number)) in
-      isolate file attention words read list
+      isolate limits file attention words read list
       ≡ doneOutcome (length ls) (reachedCount g (nodePosition (s .chip) (s .root .id) (s .root .number)))
       (recordsOf (s .chip) attention ls ++ drop (length ls * recordSize) list))
   unfolding isolate isolateIn fromRoot allRead listOutcome
   succeeds-in s = rw (s .accepted, s .known, s .rooted, s .fit, s .valued, s .room)
 
-  rooted-cases : (c : Chip) (end : ℕ) → verdict file ≡ done c end → knownAttention attention ≡ true → (ts : List Root) → rootFor attention c ≡ ts
+  rooted-cases : (c : Chip) (end : ℕ) → verdict limits file ≡ done c end → knownAttention attention ≡ true → (ts : List Root) → rootFor attention c ≡ ts
       → Refused list (fromRoot c attention words read list ts) ⊎ Succeeds
   unfolding fromRoot
   rooted-cases c end v k [] r = inl (refusal 16 0 list (omega arith) (omega arith))
@@ -130,20 +131,20 @@ module _ (file : List ℕ) (attention : ℕ) (words read list : List ℕ) where
       go false f = inl (refusal 17 0 list (omega arith) (omega arith))
 
   -- Isolation refuses or succeeds.
-  pub outcome-cases : Refused list (isolate file attention words read list) ⊎ Succeeds
+  pub outcome-cases : Refused list (isolate limits file attention words read list) ⊎ Succeeds
   unfolding isolate isolateIn
-  outcome-cases = go (verdict file) refl
+  outcome-cases = go (verdict limits file) refl
     where
-      known-cases : (c : Chip) (end : ℕ) → verdict file ≡ done c end → (b : Bool) → knownAttention attention ≡ b
+      known-cases : (c : Chip) (end : ℕ) → verdict limits file ≡ done c end → (b : Bool) → knownAttention attention ≡ b
           → Refused list (cond b (fromRoot c attention words read list (rootFor attention c)) (refusedOutcome 15 0 list)) ⊎ Succeeds
       known-cases c end v true k = rooted-cases c end v k (rootFor attention c) refl
       known-cases c end v false k = inl (refusal 15 0 list (omega arith) (omega arith))
 
-      go : (r : Parsed Chip) → verdict file ≡ r → Refused list (isolateIn attention words read list r) ⊎ Succeeds
+      go : (r : Parsed Chip) → verdict limits file ≡ r → Refused list (isolateIn attention words read list r) ⊎ Succeeds
       go (done c end) v = known-cases c end v (knownAttention attention) refl
-      go (refused n p) v = let t = verdict-numbered file v in inl (refusal n p list (t .0) (omega (arith, t .1)))
+      go (refused n p) v = let t = verdict-numbered limits file v in inl (refusal n p list (t .0) (omega (arith, t .1)))
 
-  pub succeeds-out : isolate file attention words read list .number ≡ 0 → Succeeds
+  pub succeeds-out : isolate limits file attention words read list .number ≡ 0 → Succeeds
   succeeds-out e =
-      ⊎-elim (λ r. let d : isolate file attention words read list .number ≡ r .number = ap (λ o. o .number) (r .is) in absurd (omega (arith, r .low)))
+      ⊎-elim (λ r. let d : isolate limits file attention words read list .number ≡ r .number = ap (λ o. o .number) (r .is) in absurd (omega (arith, r .low)))
       (λ s. s) outcome-cases

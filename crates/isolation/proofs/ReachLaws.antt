@@ -9,11 +9,13 @@ use lib.Dec.{ltb, eqb}
 use lib.ListN.{length, getD, set, length-map, length-set, List·getD-eq-default}
 use lib.Seq.{getD-set-same, getD-set-other}
 use borrow.Author.Tests.{lt-ltb, le-ltb, ltb-true, ltb-false, eq-eqb, eqb-true}
+use Rattle.limits.proofs.LimitsLaws.{nodes-within}
+use Rattle.limits.specs.Limits.{libraryLimits, limitsOf}
+use Rattle.limits.specs.declared.LimitSet.{LimitSet}
 use Rattle.numbers.specs.BigEndian.{Bytes}
 use Rattle.numbers.proofs.Bools.{either, same?}
 use Rattle.graph.specs.Chains.{reachedFrom}
 use Rattle.format.specs.Lookup.{at, NodeEntry, nodeEntries}
-use Rattle.format.specs.Limits.{nodeLimit}
 use Rattle.format.specs.Parsed.{done}
 use Rattle.format.specs.Rules.{Meets}
 use Rattle.format.specs.Tree.{Chip}
@@ -118,7 +120,7 @@ pub record Reaching (whole places ch : List ℕ) (root : ℕ) (marks active unre
   pub words : SameDone marks active whole
   pub gaps : SameDone marks unread places
 
-module _ (whole places ch : List ℕ) (root n : ℕ) (size : n ≡ length whole) (few : n ≤ 256) (root-in : root < n) where
+module _ (whole places ch : List ℕ) (root n : ℕ) (size : n ≡ length whole) (few : n ≤ libraryLimits .nodeInstances) (root-in : root < n) where
   n-is : n ≡ tableSize whole
   unfolding tableSize
   n-is = omega (arith, size, few)
@@ -148,7 +150,7 @@ module _ (whole places ch : List ℕ) (root n : ℕ) (size : n ≡ length whole)
           ⊎-elim
           (λ l. small (eqb i root) (sym (started-at root i (ltb-true _ _ l)) ∙ d))
           (λ l. let z : getD (started root) i 0 ≡ 0 = List·getD-eq-default (started root) 0 (rw (length-started root) (ltb-false _ _ l)) in omega arith)
-          (either (ltb i 256))
+          (either (ltb i (libraryLimits .nodeInstances)))
 
   module _ {m active unread : List ℕ} {s : ℕ} (r : Reaching whole places ch root m active unread s) where
     pub reach-step : {k : ℕ} → k ≡ firstWaiting m → k < n → length active ≡ n → length unread ≡ n → {x y : ℕ} → x ≡ getD whole k 0 → y ≡ getD places k 0
@@ -186,10 +188,10 @@ module _ (whole places ch : List ℕ) (root n : ℕ) (size : n ≡ length whole)
 -- The tables of an accepted file
 
 -- The rules of a node instance are read again at their places.
-pub entry-again : (file : List ℕ) → Bytes file → (c : Chip) (end : ℕ) → verdict file ≡ done c end → (k : ℕ) (e : NodeEntry) → at k (nodeEntries c) ≡ e ∷ [] → RulesAgain file e
-entry-again file bytes c end v k e q = every-at (RulesAgain file) k (nodeEntries c) (entries-rules file bytes c (v ∙ ap (done c) (read-to-end file bytes v))) q
+pub entry-again : (of : LimitSet) (file : List ℕ) → Bytes file → (c : Chip) (end : ℕ) → verdict (limitsOf of) file ≡ done c end → (k : ℕ) (e : NodeEntry) → at k (nodeEntries c) ≡ e ∷ [] → RulesAgain file e
+entry-again of file bytes c end v k e q = every-at (RulesAgain file) k (nodeEntries c) (entries-rules of file bytes c (v ∙ ap (done c) (read-to-end (limitsOf of) file bytes v))) q
 
-module _ (file : List ℕ) (bytes : Bytes file) (attention : ℕ) (words read keys index nodes places ch : List ℕ) (t : Tabled file keys index nodes places ch) (root : ℕ) (root-in : root < length places) where
+module _ (of : LimitSet) (file : List ℕ) (bytes : Bytes file) (attention : ℕ) (words read keys index nodes places ch : List ℕ) (t : Tabled of file keys index nodes places ch) (root : ℕ) (root-in : root < length places) where
   abbrev whole : List ℕ
   whole = activeColumn keys words read attention (t .chip)
 
@@ -202,16 +204,15 @@ module _ (file : List ℕ) (bytes : Bytes file) (attention : ℕ) (words read ke
   size-whole : length places ≡ length whole
   size-whole = size ∙ sym (length-map (nodeEntries (t .chip)) _)
 
-  few : length places ≤ 256
-  unfolding nodeLimit
-  few = let m : Meets (t .chip) = verdict-meets file bytes (t .accepted) in omega (arith, size, m .limits .nodes)
+  few : length places ≤ libraryLimits .nodeInstances
+  few = let m : Meets (limitsOf of) (t .chip) = verdict-meets (limitsOf of) file bytes (t .accepted) in omega (arith, size, m .within .nodes, nodes-within of)
 
   pub taken-start : {m : List ℕ} → m ≡ started root → (active unread : List ℕ) → Reaching whole gaps ch root m active unread 0
   taken-start e active unread = reach-start whole gaps ch root (length places) size-whole few root-in e active unread
 
   module _ {m active unread : List ℕ} {s : ℕ} (r : Reaching whole gaps ch root m active unread s) where
     pub taken-step : {k : ℕ} → k ≡ firstWaiting m → k < length places → length active ≡ length places → length unread ≡ length places → {x : Activity}
-        → ((c : Chip) (end k′ : ℕ) (e : NodeEntry) → verdict file ≡ done c end → at k′ (nodeEntries c) ≡ e ∷ [] → getD places k 0 ≡ e .instance .place
+        → ((c : Chip) (end k′ : ℕ) (e : NodeEntry) → verdict (limitsOf of) file ≡ done c end → at k′ (nodeEntries c) ≡ e ∷ [] → getD places k 0 ≡ e .instance .place
         → (x .word ≡ activeWord keys words read attention e) × (x .unread ≡ unreadPlace keys read attention e))
         → {active′ unread′ : List ℕ} → active′ ≡ set active k (x .word) → unread′ ≡ set unread k (x .unread) → {m′ : List ℕ} → m′ ≡ stepped (tableGraph active′ ch) m
         → Reaching whole gaps ch root m′ active′ unread′ (s + 1)
@@ -228,6 +229,6 @@ module _ (file : List ℕ) (bytes : Bytes file) (attention : ℕ) (words read ke
         → (_≡_ {A = Walked} (record { marks = m; steps = s }) (finished (tableGraph whole ch) root)) × SameDone m active whole × SameDone m unread gaps
     taken-end h = (reach-end whole gaps ch root (length places) size-whole few root-in r h, r .words, r .gaps)
 
-    pub taken-full : 256 ≤ s
+    pub taken-full : libraryLimits .nodeInstances ≤ s
         → (_≡_ {A = Walked} (record { marks = m; steps = s }) (finished (tableGraph whole ch) root)) × SameDone m active whole × SameDone m unread gaps
     taken-full h = (reach-full whole gaps ch root (length places) size-whole few root-in r (omega (arith, few)), r .words, r .gaps)

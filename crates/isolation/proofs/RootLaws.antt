@@ -8,10 +8,12 @@ use native.Mathlib.Omega.{arith}
 use lib.Dec.{eqb}
 use lib.ListN.{length, length-map}
 use borrow.Author.Tests.{le-leb, lt-leb}
+use Rattle.limits.proofs.LimitsLaws.{nodes-within}
+use Rattle.limits.specs.Limits.{libraryLimits, limitsOf}
+use Rattle.limits.specs.declared.LimitSet.{LimitSet}
 use Rattle.numbers.specs.BigEndian.{Bytes}
 use Rattle.numbers.proofs.Bools.{either}
 use Rattle.format.specs.Fields.{knownAttention}
-use Rattle.format.specs.Limits.{nodeLimit}
 use Rattle.format.specs.Lookup.{some, registerEntries, nodeEntries, nodePosition}
 use Rattle.format.specs.Rules.{Meets}
 use Rattle.format.specs.Tree.{Root}
@@ -24,14 +26,13 @@ use Rattle.isolation.specs.Ready.{Tabled, Ready}
 use Rattle.isolation.proofs.AnswerLaws.{type-refused, root-refused, readings-refused}
 use Rattle.format.proofs.FindingLaws.{first-none, first-some, root-inside}
 
-module _ (file : List ℕ) (bytes : Bytes file) (attention : ℕ) (words read list keys index nodes places children : List ℕ) (root : ℕ)
-    (t : Tabled file keys index nodes places children) (r : root ≡ rootPlace (t .chip) (rootFor attention (t .chip))) where
-  meets : Meets (t .chip)
-  meets = verdict-meets file bytes (t .accepted)
+module _ (of : LimitSet) (file : List ℕ) (bytes : Bytes file) (attention : ℕ) (words read list keys index nodes places children : List ℕ) (root : ℕ)
+    (t : Tabled of file keys index nodes places children) (r : root ≡ rootPlace (t .chip) (rootFor attention (t .chip))) where
+  meets : Meets (limitsOf of) (t .chip)
+  meets = verdict-meets (limitsOf of) file bytes (t .accepted)
 
-  few : length (nodeEntries (t .chip)) ≤ 256
-  unfolding nodeLimit
-  few = meets .limits .nodes
+  few : length (nodeEntries (t .chip)) ≤ libraryLimits .nodeInstances
+  few = omega (arith, meets .within .nodes, nodes-within of)
 
   size-is : length nodes ≡ length (nodeEntries (t .chip))
   size-is = ap length (t .nodes-are) ∙ length-map (nodeEntries (t .chip)) _
@@ -64,33 +65,33 @@ module _ (file : List ℕ) (bytes : Bytes file) (attention : ℕ) (words read li
   a-root l = ⊎-elim (λ e. absurd (omega (arith, size-is, few, place-none e))) (λ x. (x .0, x .1, place-one (x .0) (x .1))) root-cases
 
   -- 15 to 17.
-  pub small-type : attention < 1 → refusedOutcome 15 0 list ≡ isolate file attention words read list
+  pub small-type : attention < 1 → refusedOutcome 15 0 list ≡ isolate (limitsOf of) file attention words read list
   unfolding knownAttention
-  small-type h = type-refused file attention words read list (t .chip) (t .end) (t .accepted) (rw (lt-leb 1 attention h))
+  small-type h = type-refused of file attention words read list (t .chip) (t .end) (t .accepted) (rw (lt-leb 1 attention h))
 
   module _ (least : 1 ≤ attention) where
-    pub large-type : 5 < attention → refusedOutcome 15 0 list ≡ isolate file attention words read list
+    pub large-type : 5 < attention → refusedOutcome 15 0 list ≡ isolate (limitsOf of) file attention words read list
     unfolding knownAttention
-    large-type h = type-refused file attention words read list (t .chip) (t .end) (t .accepted) (rw (le-leb 1 attention least, lt-leb attention 5 h))
+    large-type h = type-refused of file attention words read list (t .chip) (t .end) (t .accepted) (rw (le-leb 1 attention least, lt-leb attention 5 h))
 
     module _ (most : attention ≤ 5) where
       known : knownAttention attention ≡ true
       unfolding knownAttention
       known = rw (le-leb 1 attention least, le-leb attention 5 most)
 
-      pub rootless : length nodes ≤ root → refusedOutcome 16 0 list ≡ isolate file attention words read list
-      rootless l = root-refused file attention words read list (t .chip) (t .end) (t .accepted) known (no-root l)
+      pub rootless : length nodes ≤ root → refusedOutcome 16 0 list ≡ isolate (limitsOf of) file attention words read list
+      rootless l = root-refused of file attention words read list (t .chip) (t .end) (t .accepted) known (no-root l)
 
       keys-length : length keys ≡ length (registerEntries (t .chip))
       keys-length = ap length (t .keys-are) ∙ length-map (registerEntries (t .chip)) _
 
       module _ (l : root < length nodes) {b : Bool} (fit : b ≡ fitting (length keys) words read) where
-        pub unfitting : b ≡ false → refusedOutcome 17 0 list ≡ isolate file attention words read list
+        pub unfitting : b ≡ false → refusedOutcome 17 0 list ≡ isolate (limitsOf of) file attention words read list
         unfitting e =
             let x = a-root l in
-            readings-refused file attention words read list (t .chip) (t .end) (t .accepted) known (x .0) [] (x .1) (length keys) keys-length (sym fit ∙ e)
+            readings-refused of file attention words read list (t .chip) (t .end) (t .accepted) known (x .0) [] (x .1) (length keys) keys-length (sym fit ∙ e)
 
-        pub ready : b ≡ true → Ready file attention words read keys index nodes places children root
+        pub ready : b ≡ true → Ready of file attention words read keys index nodes places children root
         ready e =
             let x = a-root l in
             record {

@@ -4,7 +4,8 @@ use Rattle.format.specs.Cycles.{leads, childEdge, OnCycle, cyclesFrom, cycleFau
 use Rattle.format.specs.ExpressionLayout.{operationOf, readingAt, operandsAt, shiftedAt, bodyAt, exprAt}
 use Rattle.format.specs.Fields.{fieldAt, same, keywordAt, countAt, knownType, typeAt, addressSize, knownFlags, flagsAt, readable, knownAttention, attentionAt, member, fresh}
 use Rattle.format.specs.FileLayout.{startAt, rootAt, rootsAt, fileAt}
-use Rattle.format.specs.Limits.{fileLimit, registerLimit, nodeLimit, levels, chipdata, regs, node, root}
+use Rattle.limits.specs.Limits.{levels}
+use Rattle.format.specs.Keywords.{chipdata, regs, node, root}
 use Rattle.format.specs.Lookup.{some, position, at, gathered, entriesOf, registerEntries, registerNamed, nodeEntriesOf, nodeEntries, nodeNamed, registerPosition, nodePosition}
 use Rattle.format.specs.Meaning.{valueWithin, bitsWithin}
 use Rattle.format.specs.NodeLayout.{captureAt, ruleAt, childAt, instanceHeadAt, nodeInstanceAt, nodeTotal, nodeHeadAt, nodeAt, nodesAt}
@@ -29,5 +30,6 @@ use Rattle.numbers.specs.Field.{present, field}
 use Rattle.isolation.specs.Samples.{AllHold, samples}
 
 pub samples-hold : AllHold samples
-unfolding leads childEdge OnCycle cyclesFrom cycleFaults operationOf readingAt operandsAt shiftedAt bodyAt exprAt fieldAt same keywordAt countAt knownType typeAt addressSize knownFlags flagsAt readable knownAttention attentionAt member fresh startAt rootAt rootsAt fileAt fileLimit registerLimit nodeLimit levels chipdata regs node root some position at gathered entriesOf registerEntries registerNamed nodeEntriesOf nodeEntries nodeNamed registerPosition nodePosition valueWithin bitsWithin captureAt ruleAt childAt instanceHeadAt nodeInstanceAt nodeTotal nodeHeadAt nodeAt nodesAt andThen making require requiring rowAt unless fits hasRule hasRegister hasRegisterThat registerFaults hasNode captureFaults namedFaults ruleFaults childFaults instanceFaults rootFaults referenceFaults namedBy registerTotal registerInstanceAt registerHeadAt registerAt registersAt b1 selfChild capturing gather judged verdict checkOf check any count silent nothingBelow linked reachedFrom listable listed below kept listedOf reachedCount reachedIn reached onCycle firstOf ruleFor rootFor childFor ruleUnread ruleActive entryActive childPosition entryChild chipGraph entryUnread reachedUnread listOutcome allRead fromRoot isolateIn isolate readingsFit hasValue wordFor unreadFaults recordSize recordOf recordBytes listing linkRecord recordsOf lent twoNodes bigEndian bytesOf bitOf wordOf notBits andBits orBits leftBits rightBits present field
-samples-hold = (refl, (refl, (refl, (refl, (refl, (refl, (refl, (refl, (refl, (refl, (refl, (refl, (refl, (refl, (refl, (refl, (refl, tt)))))))))))))))))
+unfolding leads childEdge OnCycle cyclesFrom cycleFaults operationOf readingAt operandsAt shiftedAt bodyAt exprAt fieldAt same keywordAt countAt knownType typeAt addressSize knownFlags flagsAt readable knownAttention attentionAt member fresh startAt rootAt rootsAt fileAt levels chipdata regs node root some position at gathered entriesOf registerEntries registerNamed nodeEntriesOf nodeEntries nodeNamed registerPosition nodePosition valueWithin bitsWithin captureAt ruleAt childAt instanceHeadAt nodeInstanceAt nodeTotal nodeHeadAt nodeAt nodesAt andThen making require requiring rowAt unless fits hasRule hasRegister hasRegisterThat registerFaults hasNode captureFaults namedFaults ruleFaults childFaults instanceFaults rootFaults referenceFaults namedBy registerTotal registerInstanceAt registerHeadAt registerAt registersAt b1 selfChild capturing gather judged verdict checkOf check any count silent nothingBelow linked reachedFrom listable listed below kept listedOf reachedCount reachedIn reached onCycle firstOf ruleFor rootFor childFor ruleUnread ruleActive entryActive childPosition entryChild chipGraph entryUnread reachedUnread listOutcome allRead fromRoot isolateIn isolate readingsFit hasValue wordFor unreadFaults recordSize recordOf recordBytes listing linkRecord recordsOf lent twoNodes bigEndian bytesOf bitOf wordOf notBits andBits orBits leftBits rightBits present field
+samples-hold =
+    ((refl, refl), ((refl, refl), ((refl, refl), ((refl, refl), ((refl, refl), ((refl, refl), ((refl, refl), ((refl, refl), (refl, (refl, (refl, (refl, (refl, (refl, (refl, (refl, (refl, tt)))))))))))))))))

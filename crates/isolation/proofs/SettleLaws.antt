@@ -4,9 +4,11 @@ use mathlib.Core.List.{List, [], _∷_}
 use mathlib.Core.Path.{_≡_, refl, sym, _∙_, ap, subst}
 use native.Mathlib.Omega.{arith}
 use lib.ListN.{length, getD, length-map}
+use Rattle.limits.proofs.LimitsLaws.{nodes-within}
+use Rattle.limits.specs.Limits.{libraryLimits, limitsOf}
+use Rattle.limits.specs.declared.LimitSet.{LimitSet}
 use Rattle.numbers.specs.BigEndian.{Bytes}
 use Rattle.format.specs.Lookup.{at, NodeEntry, registerEntries, nodeEntries}
-use Rattle.format.specs.Limits.{nodeLimit}
 use Rattle.format.specs.Rules.{Meets}
 use Rattle.format.specs.Tree.{Chip}
 use Rattle.format.proofs.Acceptance.{verdict-meets}
@@ -27,17 +29,16 @@ use Rattle.isolation.proofs.AnswerLaws.{keys-tell, unread-refused, room
 use Rattle.isolation.proofs.GraphsLaws.{DoneReached, finished-done}
 use Rattle.isolation.proofs.ReachLaws.{links-same, list-same, first-same}
 
-module _ (file : List ℕ) (bytes : Bytes file) (attention : ℕ) (words read keys index nodes places children : List ℕ) (root : ℕ)
-    (ready : Ready file attention words read keys index nodes places children root) where
+module _ (of : LimitSet) (file : List ℕ) (bytes : Bytes file) (attention : ℕ) (words read keys index nodes places children : List ℕ) (root : ℕ)
+    (ready : Ready of file attention words read keys index nodes places children root) where
   abbrev chip : Chip
   chip = ready .tabled .chip
 
-  meets : Meets chip
-  meets = verdict-meets file bytes (ready .tabled .accepted)
+  meets : Meets (limitsOf of) chip
+  meets = verdict-meets (limitsOf of) file bytes (ready .tabled .accepted)
 
-  few : length (nodeEntries chip) ≤ 256
-  unfolding nodeLimit
-  few = meets .limits .nodes
+  few : length (nodeEntries chip) ≤ libraryLimits .nodeInstances
+  few = omega (arith, meets .within .nodes, nodes-within of)
 
   pub size-is : length places ≡ length (nodeEntries chip)
   size-is = ap length (ready .tabled .places-are) ∙ length-map (nodeEntries chip) _
@@ -85,10 +86,10 @@ module _ (file : List ℕ) (bytes : Bytes file) (attention : ℕ) (words read ke
       first-is : {p : ℕ} → p ≡ firstUnread (w .marks) unread (length places) → p ≡ firstUnread (w .marks) (unreadColumn (registerKeys chip) read attention chip) (length places)
       first-is d = d ∙ first-same (w .marks) unread _ places-done (length places)
 
-      pub settled-unread : {p : ℕ} → p ≡ firstUnread (w .marks) unread (length places) → (p ≡ 0 → ⊥) → refusedOutcome 18 p list ≡ isolate file attention words read list
+      pub settled-unread : {p : ℕ} → p ≡ firstUnread (w .marks) unread (length places) → (p ≡ 0 → ⊥) → refusedOutcome 18 p list ≡ isolate (limitsOf of) file attention words read list
       settled-unread d e =
           let t = ready .tabled in
-          unread-refused file attention words read list chip (t .end) (t .accepted) (ready .known) (ready .first) (ready .others) (ready .rooted) (length (registerEntries chip)) refl
+          unread-refused of file attention words read list chip (t .end) (t .accepted) (ready .known) (ready .first) (ready .others) (ready .rooted) (length (registerEntries chip)) refl
           bytes (ready .fits) root (ready .root-is) whole children (t .rest) refl (t .children-are) _ unread-is (w .marks) (ap (λ x. x .marks) walked) (length places) size-is (first-is d) e
 
       -- And the words of active bits.
@@ -105,22 +106,22 @@ module _ (file : List ℕ) (bytes : Bytes file) (attention : ℕ) (words read ke
 
         after : {new : List ℕ} → new ≡ listAfter attention nodes (w .marks) active children list → new ≡ listAfter attention nodes (w .marks) whole children list
         after h =
-            h ∙ list-same whole active children lengths root root-inside-graph (w .marks) done words-done chip attention nodes whole-size (keys-tell chip meets nodes (ready .tabled .nodes-are)) list
+            h ∙ list-same whole active children lengths root root-inside-graph (w .marks) done words-done chip attention nodes whole-size (keys-tell of chip meets nodes (ready .tabled .nodes-are)) list
 
         pub settled-room : {count : ℕ} → l ≡ Listing.NoRoom count → {new : List ℕ} → new ≡ listAfter attention nodes (w .marks) active children list
-            → refusedOutcome 19 count new ≡ isolate file attention words read list
+            → refusedOutcome 19 count new ≡ isolate (limitsOf of) file attention words read list
         settled-room e h =
             let t = ready .tabled in
-            room-refused file attention words read list chip (t .end) (t .accepted) (ready .known) (ready .first) (ready .others) (ready .rooted) (length (registerEntries chip)) refl
+            room-refused of file attention words read list chip (t .end) (t .accepted) (ready .known) (ready .first) (ready .others) (ready .rooted) (length (registerEntries chip)) refl
             bytes (ready .fits) root (ready .root-is) whole children (t .rest) refl (t .children-are) _ unread-is (w .marks) (ap (λ x. x .marks) walked) (length places) size-is
             (sym (first-is d) ∙ z) nodes (t .nodes-are) l l-whole e (after h)
 
         pub settled-written : {count : ℕ} → l ≡ Listing.Written count → {new : List ℕ} → new ≡ listAfter attention nodes (w .marks) active children list
-            → doneOutcome count (w .steps) new ≡ isolate file attention words read list
+            → doneOutcome count (w .steps) new ≡ isolate (limitsOf of) file attention words read list
         settled-written {count} e {new} h =
             let t = ready .tabled in
             let s : w .steps ≡ finished (tableGraph whole children) root .steps = ap (λ x. x .steps) walked in
             ap (λ x. doneOutcome count x new) s
-            ∙ all-written file attention words read list chip (t .end) (t .accepted) (ready .known) (ready .first) (ready .others) (ready .rooted) (length (registerEntries chip)) refl
+            ∙ all-written of file attention words read list chip (t .end) (t .accepted) (ready .known) (ready .first) (ready .others) (ready .rooted) (length (registerEntries chip)) refl
             bytes (ready .fits) root (ready .root-is) whole children (t .rest) refl (t .children-are) _ unread-is (w .marks) (ap (λ x. x .marks) walked) (length places) size-is
             (sym (first-is d) ∙ z) nodes (t .nodes-are) l l-whole e (after h)

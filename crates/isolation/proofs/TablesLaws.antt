@@ -10,10 +10,12 @@ use native.Mathlib.Omega.{arith}
 use lib.Dec.{ltb}
 use lib.ListN.{length, getD, length-map}
 use borrow.Author.Tests.{lt-ltb, le-ltb}
+use Rattle.limits.proofs.LimitsLaws.{nodes-within}
+use Rattle.limits.specs.declared.LimitSet.{LimitSet}
 use Rattle.numbers.specs.Bits.{bitOf}
 use Rattle.numbers.proofs.BitsLaws.{zero-bit}
 use Rattle.graph.specs.Chains.{reachedFrom, reachedCount}
-use Rattle.format.specs.Limits.{levels, nodeLimit}
+use Rattle.limits.specs.Limits.{libraryLimits, limitsOf, levels}
 use Rattle.format.specs.Lookup.{some, at, gathered, NodeEntry, nodeEntries, registerPosition}
 use Rattle.format.specs.Meaning.{valueWithin}
 use Rattle.format.specs.References.{Named, Fault, namedBy}
@@ -43,10 +45,9 @@ use Rattle.isolation.proofs.ActivityLaws.{no-rule, one-rule}
 use Rattle.isolation.proofs.ChipLaws.{chip-sound}
 use Rattle.isolation.proofs.GraphsLaws.{Agree, agree-reached, reached-same, listing-same, count-reached-same}
 
-module _ (c : Chip) (meets : Meets c) where
-  pub entries-few : length (nodeEntries c) ≤ 256
-  unfolding nodeLimit
-  entries-few = meets .limits .nodes
+module _ (of : LimitSet) (c : Chip) (meets : Meets (limitsOf of) c) where
+  pub entries-few : length (nodeEntries c) ≤ libraryLimits .nodeInstances
+  entries-few = omega (arith, meets .within .nodes, nodes-within of)
 
   -- A place of the table of children says what the bit's child entry says.
   held : (table : List ℕ) (k : ℕ) (x : Option ℕ) → ((j : ℕ) → x ≡ option.some j → j < length (nodeEntries c)) → k < length table → getD table k 0 ≡ positionOr x

@@ -12,7 +12,8 @@ use Rattle.numbers.specs.BigEndian.{Bytes}
 use Rattle.graph.specs.Chains.{below, reachedFrom}
 use Rattle.format.specs.Encoding.{encodeExpr}
 use Rattle.format.specs.ExpressionLayout.{exprAt}
-use Rattle.format.specs.Limits.{levels}
+use Rattle.limits.specs.declared.LimitSet.{LimitSet}
+use Rattle.limits.specs.Limits.{levels, limitsOf}
 use Rattle.format.specs.Lookup.{at, gathered, NodeEntry, nodeEntries}
 use Rattle.format.specs.Parsed.{done}
 use Rattle.format.specs.Placing.{PlacedRow, PlacedExpr, PlacedExprs, PlacedRule, PlacedNodeInstance}
@@ -81,13 +82,13 @@ rules-placed : (at : ℕ) (i : NodeInstance) → PlacedNodeInstance at i → Eve
 unfolding PlacedNodeInstance
 rules-placed at i h = row-placed PlacedRule _ RulePlaced rule-placed _ (i .rules) (h .2)
 
-module _ (s : List ℕ) (bytes : Bytes s) (c : Chip) (accepted : verdict s ≡ done c (length s)) where
+module _ (of : LimitSet) (s : List ℕ) (bytes : Bytes s) (c : Chip) (accepted : verdict (limitsOf of) s ≡ done c (length s)) where
   pub entries-placed : Every (λ e. Every RulePlaced (e .instance .rules)) (nodeEntries c)
-  entries-placed = every-map _ _ (λ (e : NodeEntry) t. rules-placed (t .start) (e .instance) (t .placed)) (nodeEntries c) (entries-stand s bytes c accepted)
+  entries-placed = every-map _ _ (λ (e : NodeEntry) t. rules-placed (t .start) (e .instance) (t .placed)) (nodeEntries c) (entries-stand (limitsOf of) s bytes c accepted)
 
   entries-read : Every (λ e. Every (λ r. exprAt s levels (r .place) ≡ done (r .expression) (r .place + length (encodeExpr (r .expression)))) (e .instance .rules)) (nodeEntries c)
   unfolding allRules
-  entries-read = every-gathered-out _ _ (nodeEntries c) (rules-again s bytes c accepted)
+  entries-read = every-gathered-out _ _ (nodeEntries c) (rules-again (limitsOf of) s bytes c accepted)
 
   -- The rules of an accepted file are read again at their places.
   pub entries-rules : Every (RulesAgain s) (nodeEntries c)
@@ -163,13 +164,13 @@ some-first [] h e list o = absurd (e refl)
 some-first (f ∷ fs) h e list o = rw (h .0)
 
 -- The tables of an accepted file, with marks that are done where the root reaches.
-module _ (s : List ℕ) (bytes : Bytes s) (c : Chip) (accepted : verdict s ≡ done c (length s)) (attention : ℕ) (words read : List ℕ) (act ch rest : List ℕ)
+module _ (of : LimitSet) (s : List ℕ) (bytes : Bytes s) (c : Chip) (accepted : verdict (limitsOf of) s ≡ done c (length s)) (attention : ℕ) (words read : List ℕ) (act ch rest : List ℕ)
     (act-is : act ≡ map (activeWord (registerKeys c) words read attention) (nodeEntries c))
     (ch-is : ch ≡ childColumn c ++ rest)
     (root : ℕ) (inside : root < length (nodeEntries c)) (marks : List ℕ) (reached : DoneReached (tableGraph act ch) root marks) (unread : List ℕ)
     (unread-is : (i : ℕ) (e : NodeEntry) → at i (nodeEntries c) ≡ e ∷ [] → getD unread i 0 ≡ unreadPlace (registerKeys c) read attention e) where
-  meets : Meets c
-  meets = acceptance s bytes c .0 accepted .2
+  meets : Meets (limitsOf of) c
+  meets = acceptance (limitsOf of) s bytes c .0 accepted .2
 
   abbrev faultsAt : ℕ → List Fault
   faultsAt i = cond (reachedFrom (chipGraph c attention words read) root i) (gathered (entryUnread c attention read) (at i (nodeEntries c))) []
@@ -177,14 +178,14 @@ module _ (s : List ℕ) (bytes : Bytes s) (c : Chip) (accepted : verdict s ≡ d
   done-reached : (i : ℕ) → i < length (nodeEntries c) → isDone marks i ≡ reachedFrom (chipGraph c attention words read) root i
   unfolding tableGraph
   done-reached i h =
-      done-is (tableGraph act ch) root marks reached i (omega (arith, act-size c meets attention words read act ch rest act-is ch-is))
-      ∙ tables-reached c meets attention words read act ch rest act-is ch-is root inside i
+      done-is (tableGraph act ch) root marks reached i (omega (arith, act-size of c meets attention words read act ch rest act-is ch-is))
+      ∙ tables-reached of c meets attention words read act ch rest act-is ch-is root inside i
 
   place-is : (i : ℕ) (e : NodeEntry) → at i (nodeEntries c) ≡ e ∷ [] → getD unread i 0 ≡ firstPlace (gathered (entryUnread c attention read) (at i (nodeEntries c)))
   unfolding unreadPlace
   place-is i e q =
       rw q
-      (unread-is i e q ∙ ap firstPlace (entry-unread c meets attention read e (every-at _ i (nodeEntries c) (rules-fit c meets) q) ∙ sym (gathered-one (entryUnread c attention read) e)))
+      (unread-is i e q ∙ ap firstPlace (entry-unread of c meets attention read e (every-at _ i (nodeEntries c) (rules-fit of c meets) q) ∙ sym (gathered-one (entryUnread c attention read) e)))
 
   place-here : (i : ℕ) → i < length (nodeEntries c) → unreadAt marks unread i ≡ firstPlace (faultsAt i)
   unfolding unreadAt
@@ -200,7 +201,7 @@ module _ (s : List ℕ) (bytes : Bytes s) (c : Chip) (accepted : verdict s ≡ d
   faults-standing i h =
       let d = at-inside i (nodeEntries c) h in
       rw (d .1, gathered-one (entryUnread c attention read) (d .0))
-      (go (d .0) (reachedFrom (chipGraph c attention words read) root i) (every-at _ i (nodeEntries c) (entries-placed s bytes c accepted) (d .1)))
+      (go (d .0) (reachedFrom (chipGraph c attention words read) root i) (every-at _ i (nodeEntries c) (entries-placed of s bytes c accepted) (d .1)))
     where
       go : (e : NodeEntry) (t : Bool) → Every RulePlaced (e .instance .rules) → Every Standing (cond t (entryUnread c attention read e) [])
       go e true p = entry-standing c read attention e p

@@ -6,7 +6,7 @@ use mathlib.Core.Path.{_≡_}
 use lib.Dec.{ltb, eqb}
 use lib.ListN.{length, getD}
 use Rattle.format.specs.ExpressionLayout.{exprAt}
-use Rattle.format.specs.Limits.{levels}
+use Rattle.limits.specs.Limits.{levels}
 use Rattle.format.specs.Lookup.{some, gathered, NodeEntry, nodeEntries}
 use Rattle.format.specs.Meaning.{valueWithin}
 use Rattle.format.specs.Parsed.{done}

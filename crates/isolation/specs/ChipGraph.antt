@@ -7,7 +7,7 @@ use lib.ListN.{length}
 use Rattle.numbers.specs.Bits.{bitOf}
 use Rattle.graph.specs.Chains.{Graph}
 use Rattle.format.specs.Finding.{ruleFor, childFor, childPosition}
-use Rattle.format.specs.Limits.{levels}
+use Rattle.limits.specs.Limits.{levels}
 use Rattle.format.specs.Lookup.{some, at, gathered, NodeEntry, nodeEntries}
 use Rattle.format.specs.Meaning.{valueWithin}
 use Rattle.format.specs.References.{Fault, namedBy}

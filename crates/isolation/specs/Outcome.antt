@@ -5,6 +5,7 @@ use mathlib.Core.List.{List, [], _∷_, _++_}
 use lib.Dec.{eqb, leb}
 use lib.ListN.{length, drop}
 use Rattle.graph.specs.Chains.{Graph, below, reachedFrom, reachedCount}
+use Rattle.limits.specs.Limits.{Limits}
 use Rattle.format.specs.Fields.{knownAttention}
 use Rattle.format.specs.Lookup.{at, gathered, NodeEntry, nodeEntries, nodePosition}
 use Rattle.format.specs.Parsed.{Parsed, done, refused}
@@ -79,6 +80,6 @@ isolateIn attention words read list (refused n p) = refusedOutcome n p list
 isolateIn attention words read list (done c end) =
     cond (knownAttention attention) (fromRoot c attention words read list (rootFor attention c)) (refusedOutcome 15 0 list)
 
--- "Order: .. then 14; then 15 to 19."
-unfoldable pub isolate : List ℕ → ℕ → List ℕ → List ℕ → List ℕ → Outcome
-isolate file attention words read list = isolateIn attention words read list (verdict file)
+-- The answer by the limits that hold for the file. "Order: .. then 14; then 15 to 19."
+unfoldable pub isolate : Limits → List ℕ → ℕ → List ℕ → List ℕ → List ℕ → Outcome
+isolate limits file attention words read list = isolateIn attention words read list (verdict limits file)

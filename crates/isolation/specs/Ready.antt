@@ -5,6 +5,8 @@ use mathlib.Core.List.{List, _∷_, _++_}
 use mathlib.Core.Path.{_≡_}
 use lib.Dec.{leb}
 use lib.ListN.{length}
+use Rattle.limits.specs.declared.LimitSet.{LimitSet}
+use Rattle.limits.specs.Limits.{Limits, limitsOf}
 use Rattle.format.specs.Fields.{knownAttention}
 use Rattle.format.specs.Lookup.{registerEntries, nodePosition}
 use Rattle.format.specs.Parsed.{done}
@@ -18,10 +20,10 @@ use Rattle.format.specs.Finding.{rootFor}
 use Rattle.isolation.specs.Activity.{fitting}
 
 -- The tables are those of the chip; other numbers may follow in the table of children.
-pub record Tabled (file keys index nodes places children : List ℕ) : Type 0 where
+pub record Tabled (of : LimitSet) (file keys index nodes places children : List ℕ) : Type 0 where
   pub chip : Chip
   pub end : ℕ
-  pub accepted : verdict file ≡ done chip end
+  pub accepted : verdict (limitsOf of) file ≡ done chip end
   pub keys-are : keys ≡ registerKeys chip
   pub indexed : IndexOf index keys
   pub nodes-are : nodes ≡ nodeKeys chip
@@ -30,8 +32,8 @@ pub record Tabled (file keys index nodes places children : List ℕ) : Type 0 wh
   pub children-are : children ≡ childColumn chip ++ rest
 
 -- And the type has a root, at this position, and the readings fit: 15 to 17 do not refuse.
-pub record Ready (file : List ℕ) (attention : ℕ) (words read keys index nodes places children : List ℕ) (root : ℕ) : Type 0 where
-  pub tabled : Tabled file keys index nodes places children
+pub record Ready (of : LimitSet) (file : List ℕ) (attention : ℕ) (words read keys index nodes places children : List ℕ) (root : ℕ) : Type 0 where
+  pub tabled : Tabled of file keys index nodes places children
   pub known : knownAttention attention ≡ true
   pub first : Root
   pub others : List Root
@@ -50,5 +52,5 @@ unfoldable pub tablesFit : ℕ → ℕ → ℕ → ℕ → ℕ → ℕ → ℕ �
 tablesFit m n keys nodes places active unread = leb m keys && (leb n nodes && (leb n places && bothFit n active unread))
 
 -- The tables of the reader have room for a file, and the one for unread registers is as long as that for names of node instances.
-unfoldable pub roomIn : Lengths → ℕ → List ℕ → Bool
-roomIn t unread file = leb (t .names) unread && roomFor t file
+unfoldable pub roomIn : Limits → Lengths → ℕ → List ℕ → Bool
+roomIn limits t unread file = leb (t .names) unread && roomFor limits t file

@@ -3,6 +3,7 @@ use Prim.Native.Nat.{ℕ}
 use mathlib.Core.List.{List, [], _∷_, _++_}
 use mathlib.Core.Path.{_≡_}
 use lib.ListN.{take, drop}
+use Rattle.limits.specs.Limits.{libraryLimits}
 use Rattle.format.specs.Samples.{b1}
 use Rattle.format.specs.Samples as files
 use Rattle.isolation.specs.Outcome.{Outcome, doneOutcome, refusedOutcome, isolate}
@@ -14,7 +15,7 @@ pub data Row : Type 0 where
 
 abbrev pub Holds : Row → Type 0
 Holds (checking r) = files.Holds r
-Holds (isolating file attention words read list o) = isolate file attention words read list ≡ o
+Holds (isolating file attention words read list o) = isolate libraryLimits file attention words read list ≡ o
 
 abbrev pub AllHold : List Row → Type 0
 AllHold [] = Unit {0}

@@ -7,7 +7,7 @@ ghost use mathlib.Core.Bool.{not};
 ghost use mathlib.Core.Path.{_≡_};
 ghost use lib.Dec.{ltb};
 ghost use Rattle.format.specs.ExpressionLayout.{exprAt};
-ghost use Rattle.format.specs.Limits.{levels};
+ghost use Rattle.limits.specs.Limits.{levels};
 ghost use Rattle.format.specs.Lookup.{some};
 ghost use Rattle.format.specs.Parsed.{done};
 ghost use Rattle.format.specs.Tree.{Expr};
@@ -32,7 +32,7 @@ pub fn active_at(
     if at == 0 {
         return Activity { word: 0, unread: 0 };
     }
-    let v = value_at(s, at, format::LEVELS, index, keys, words, read);
+    let v = value_at(s, at, limits::LEVELS, index, keys, words, read);
     if v.unread {
         return Activity {
             word: 0,

@@ -14,6 +14,8 @@ use reader::wanted::wanted_root;
 ghost use mathlib.Core.Bool.{true, cond};
 ghost use mathlib.Core.Path.{_≡_};
 ghost use lib.ListN.{length};
+ghost use Rattle.limits.specs.declared.LimitSet.{LimitSet};
+ghost use Rattle.limits.specs.Limits.{limitsOf};
 ghost use Rattle.format.specs.FileLayout.{rootsAt};
 ghost use Rattle.format.specs.Parsed.{done};
 ghost use Rattle.reader.specs.Examined.{Examined};
@@ -37,8 +39,9 @@ fn settle(
     unread: &mut [u64],
 ) -> Isolated
     requires { ⌜ (length (now active) ≡ length (now places)) × (length (now unread) ≡ length (now places)) ⌝ }
-    ensures { λ r. ⌜ (Ready (now (file .entry)) attention (now (words .entry)) (now (read .entry)) (now (keys .entry)) (now (index .entry)) (now (nodes .entry)) (now (places .entry)) (now (children .entry)) root
-        → outcomeOf r (now (list .exit)) ≡ isolate (now (file .entry)) attention (now (words .entry)) (now (read .entry)) (now (list .entry))) ⌝ }
+    ensures { λ r. ⌜ ((of : LimitSet)
+        → Ready of (now (file .entry)) attention (now (words .entry)) (now (read .entry)) (now (keys .entry)) (now (index .entry)) (now (nodes .entry)) (now (places .entry)) (now (children .entry)) root
+        → outcomeOf r (now (list .exit)) ≡ isolate (limitsOf of) (now (file .entry)) attention (now (words .entry)) (now (read .entry)) (now (list .entry))) ⌝ }
 {
     let w = reach(
         file,
@@ -89,9 +92,9 @@ fn by_tables(
     unread: &mut [u64],
 ) -> Isolated
     requires { ⌜ (length (now active) ≡ length (now places)) × (length (now unread) ≡ length (now places)) ⌝ }
-    ensures { λ r. ⌜ ((t : Tabled (now (file .entry)) (now (keys .entry)) (now (index .entry)) (now (nodes .entry)) (now (places .entry)) (now (children .entry)))
+    ensures { λ r. ⌜ ((of : LimitSet) (t : Tabled of (now (file .entry)) (now (keys .entry)) (now (index .entry)) (now (nodes .entry)) (now (places .entry)) (now (children .entry)))
         → rootsAt (now (file .entry)) true «roots_at» ≡ done (t .chip .roots) (t .end)
-        → outcomeOf r (now (list .exit)) ≡ isolate (now (file .entry)) attention (now (words .entry)) (now (read .entry)) (now (list .entry))) ⌝ }
+        → outcomeOf r (now (list .exit)) ≡ isolate (limitsOf of) (now (file .entry)) attention (now (words .entry)) (now (read .entry)) (now (list .entry))) ⌝ }
 {
     if attention < 1 {
         return Isolated::Refused(Refusal {
@@ -178,9 +181,10 @@ pub fn answer(
     active: &mut [u64],
     unread: &mut [u64],
 ) -> Isolated
-    ensures { λ r. ⌜ (Examined (now (file .entry)) l (now (keys .entry)) (now (index .entry)) (now (nodes .entry)) (now (places .entry)) (now (children .entry))
+    ensures { λ r. ⌜ ((of : LimitSet)
+        → Examined of (now (file .entry)) l (now (keys .entry)) (now (index .entry)) (now (nodes .entry)) (now (places .entry)) (now (children .entry))
         → outcomeOf r (now (list .exit)) ≡ cond (bothFit (l .«node_instances») (length (now (active .entry))) (length (now (unread .entry))))
-        (isolate (now (file .entry)) attention (now (words .entry)) (now (read .entry)) (now (list .entry)))
+        (isolate (limitsOf of) (now (file .entry)) attention (now (words .entry)) (now (read .entry)) (now (list .entry)))
         (refusedOutcome 43 0 (now (list .entry)))) ⌝ }
 {
     let m = l.register_instances;

@@ -4,11 +4,22 @@ use crate::answer::answer;
 use crate::answer::is_exact;
 use format::Kind;
 use format::Refusal;
+use limits::LimitSet;
+use limits::classes::FULL_NODES;
+use limits::classes::FULL_REGISTERS;
+use limits::classes::LARGE_NODES;
+use limits::classes::LARGE_REGISTERS;
+use limits::classes::MIDDLE_NODES;
+use limits::classes::MIDDLE_REGISTERS;
+use limits::classes::SMALL_NODES;
+use limits::classes::SMALL_REGISTERS;
 use reader::LayoutRead;
 use reader::examined::examine_in;
 ghost use mathlib.Core.Bool.{cond};
 ghost use mathlib.Core.Path.{_≡_};
 ghost use lib.ListN.{length};
+ghost use Rattle.limits.specs.Classes.{small, middle, large, full};
+ghost use Rattle.limits.specs.Limits.{libraryLimits};
 ghost use Rattle.reader.specs.Classes.{classRoom};
 ghost use Rattle.reader.specs.Examined.{lengthsOf, roomFor};
 ghost use Rattle.isolation.specs.Outcome.{outcomeOf, refusedOutcome, isolate};
@@ -32,8 +43,8 @@ fn isolate_in(
     unread: &mut [u64],
 ) -> Isolated
     ensures { λ r. ⌜ outcomeOf r (now (list .exit))
-        ≡ cond (roomIn (lengthsOf (now (keys .entry)) (now (kinds .entry)) (now (names .entry)) (now (wanted .entry)) (now (places .entry)) (now (child .entry))) (length (now (unread .entry))) (now (file .entry)))
-        (isolate (now (file .entry)) attention (now (words .entry)) (now (read .entry)) (now (list .entry)))
+        ≡ cond (roomIn libraryLimits (lengthsOf (now (keys .entry)) (now (kinds .entry)) (now (names .entry)) (now (wanted .entry)) (now (places .entry)) (now (child .entry))) (length (now (unread .entry))) (now (file .entry)))
+        (isolate libraryLimits (now (file .entry)) attention (now (words .entry)) (now (read .entry)) (now (list .entry)))
         (refusedOutcome 43 0 (now (list .entry))) ⌝ }
 {
     if unread.len() < names.len() {
@@ -44,6 +55,7 @@ fn isolate_in(
     }
     let e = examine_in(
         file,
+        LimitSet::Library,
         keys,
         kinds,
         index,
@@ -73,8 +85,8 @@ fn isolate_in(
     }
 }
 
-// With tables for 32 register instances and 8 node instances.
-pub fn isolate_small(
+// With the tables of the small class.
+fn isolate_small(
     file: &[u8],
     attention: u8,
     words: &[u64],
@@ -82,19 +94,19 @@ pub fn isolate_small(
     list: &mut [u8],
 ) -> Isolated
     ensures { λ r. ⌜ outcomeOf r (now (list .exit))
-        ≡ cond (roomFor (classRoom 32 8) (now (file .entry)))
-        (isolate (now (file .entry)) attention (now (words .entry)) (now (read .entry)) (now (list .entry)))
+        ≡ cond (roomFor libraryLimits (classRoom small) (now (file .entry)))
+        (isolate libraryLimits (now (file .entry)) attention (now (words .entry)) (now (read .entry)) (now (list .entry)))
         (refusedOutcome 43 0 (now (list .entry))) ⌝ }
 {
-    let mut keys = [0u64; 32];
-    let mut kinds = [0u64; 32];
-    let mut index = [0u16; 96];
-    let mut names = [0u64; 8];
-    let mut wanted = [0u64; 8];
-    let mut places = [0u64; 8];
-    let mut node_index = [0u16; 48];
-    let mut child = [0u16; 512];
-    let mut unread = [0u64; 8];
+    let mut keys = [0u64; SMALL_REGISTERS];
+    let mut kinds = [0u64; SMALL_REGISTERS];
+    let mut index = [0u16; SMALL_REGISTERS * 2 + 32];
+    let mut names = [0u64; SMALL_NODES];
+    let mut wanted = [0u64; SMALL_NODES];
+    let mut places = [0u64; SMALL_NODES];
+    let mut node_index = [0u16; SMALL_NODES * 2 + 32];
+    let mut child = [0u16; SMALL_NODES * 64];
+    let mut unread = [0u64; SMALL_NODES];
     isolate_in(
         file,
         attention,
@@ -113,7 +125,7 @@ pub fn isolate_small(
     )
 }
 
-// With tables for 256 register instances and 64 node instances.
+// With those of the middle one.
 fn isolate_middle(
     file: &[u8],
     attention: u8,
@@ -122,19 +134,19 @@ fn isolate_middle(
     list: &mut [u8],
 ) -> Isolated
     ensures { λ r. ⌜ outcomeOf r (now (list .exit))
-        ≡ cond (roomFor (classRoom 256 64) (now (file .entry)))
-        (isolate (now (file .entry)) attention (now (words .entry)) (now (read .entry)) (now (list .entry)))
+        ≡ cond (roomFor libraryLimits (classRoom middle) (now (file .entry)))
+        (isolate libraryLimits (now (file .entry)) attention (now (words .entry)) (now (read .entry)) (now (list .entry)))
         (refusedOutcome 43 0 (now (list .entry))) ⌝ }
 {
-    let mut keys = [0u64; 256];
-    let mut kinds = [0u64; 256];
-    let mut index = [0u16; 544];
-    let mut names = [0u64; 64];
-    let mut wanted = [0u64; 64];
-    let mut places = [0u64; 64];
-    let mut node_index = [0u16; 160];
-    let mut child = [0u16; 4096];
-    let mut unread = [0u64; 64];
+    let mut keys = [0u64; MIDDLE_REGISTERS];
+    let mut kinds = [0u64; MIDDLE_REGISTERS];
+    let mut index = [0u16; MIDDLE_REGISTERS * 2 + 32];
+    let mut names = [0u64; MIDDLE_NODES];
+    let mut wanted = [0u64; MIDDLE_NODES];
+    let mut places = [0u64; MIDDLE_NODES];
+    let mut node_index = [0u16; MIDDLE_NODES * 2 + 32];
+    let mut child = [0u16; MIDDLE_NODES * 64];
+    let mut unread = [0u64; MIDDLE_NODES];
     isolate_in(
         file,
         attention,
@@ -153,56 +165,111 @@ fn isolate_middle(
     )
 }
 
-// With tables for as many instances as a file may have.
-fn isolate_full(file: &[u8], attention: u8, words: &[u64], read: &[u8], list: &mut [u8]) -> Isolated
-    ensures { λ r. ⌜ outcomeOf r (now (list .exit))
-        ≡ cond (roomFor (classRoom 1024 256) (now (file .entry)))
-        (isolate (now (file .entry)) attention (now (words .entry)) (now (read .entry)) (now (list .entry)))
-        (refusedOutcome 43 0 (now (list .entry))) ⌝ }
-{
-    let mut keys = [0u64; 1024];
-    let mut kinds = [0u64; 1024];
-    let mut index = [0u16; 2080];
-    let mut names = [0u64; 256];
-    let mut wanted = [0u64; 256];
-    let mut places = [0u64; 256];
-    let mut node_index = [0u16; 544];
-    let mut child = [0u16; 16384];
-    let mut unread = [0u64; 256];
-    isolate_in(
-        file,
-        attention,
-        words,
-        read,
-        list,
-        &mut keys,
-        &mut kinds,
-        &mut index,
-        &mut names,
-        &mut wanted,
-        &mut places,
-        &mut node_index,
-        &mut child,
-        &mut unread,
-    )
-}
-
-// Isolation of a file that small tables are not for.
-pub fn isolate_larger(
+// With those of the large one.
+fn isolate_large(
     file: &[u8],
     attention: u8,
     words: &[u64],
     read: &[u8],
     list: &mut [u8],
 ) -> Isolated
-    ensures { λ r. ⌜ outcomeOf r (now (list .exit)) ≡ isolate (now (file .entry)) attention (now (words .entry)) (now (read .entry)) (now (list .entry)) ⌝ }
+    ensures { λ r. ⌜ outcomeOf r (now (list .exit))
+        ≡ cond (roomFor libraryLimits (classRoom large) (now (file .entry)))
+        (isolate libraryLimits (now (file .entry)) attention (now (words .entry)) (now (read .entry)) (now (list .entry)))
+        (refusedOutcome 43 0 (now (list .entry))) ⌝ }
 {
-    if 4096 < file.len() {
+    let mut keys = [0u64; LARGE_REGISTERS];
+    let mut kinds = [0u64; LARGE_REGISTERS];
+    let mut index = [0u16; LARGE_REGISTERS * 2 + 32];
+    let mut names = [0u64; LARGE_NODES];
+    let mut wanted = [0u64; LARGE_NODES];
+    let mut places = [0u64; LARGE_NODES];
+    let mut node_index = [0u16; LARGE_NODES * 2 + 32];
+    let mut child = [0u16; LARGE_NODES * 64];
+    let mut unread = [0u64; LARGE_NODES];
+    isolate_in(
+        file,
+        attention,
+        words,
+        read,
+        list,
+        &mut keys,
+        &mut kinds,
+        &mut index,
+        &mut names,
+        &mut wanted,
+        &mut places,
+        &mut node_index,
+        &mut child,
+        &mut unread,
+    )
+}
+
+// With those of the full one.
+fn isolate_full(file: &[u8], attention: u8, words: &[u64], read: &[u8], list: &mut [u8]) -> Isolated
+    ensures { λ r. ⌜ outcomeOf r (now (list .exit))
+        ≡ cond (roomFor libraryLimits (classRoom full) (now (file .entry)))
+        (isolate libraryLimits (now (file .entry)) attention (now (words .entry)) (now (read .entry)) (now (list .entry)))
+        (refusedOutcome 43 0 (now (list .entry))) ⌝ }
+{
+    let mut keys = [0u64; FULL_REGISTERS];
+    let mut kinds = [0u64; FULL_REGISTERS];
+    let mut index = [0u16; FULL_REGISTERS * 2 + 32];
+    let mut names = [0u64; FULL_NODES];
+    let mut wanted = [0u64; FULL_NODES];
+    let mut places = [0u64; FULL_NODES];
+    let mut node_index = [0u16; FULL_NODES * 2 + 32];
+    let mut child = [0u16; FULL_NODES * 64];
+    let mut unread = [0u64; FULL_NODES];
+    isolate_in(
+        file,
+        attention,
+        words,
+        read,
+        list,
+        &mut keys,
+        &mut kinds,
+        &mut index,
+        &mut names,
+        &mut wanted,
+        &mut places,
+        &mut node_index,
+        &mut child,
+        &mut unread,
+    )
+}
+
+// With the tables of a class that so many larger ones follow, and of a larger one where they are too short. It calls itself, so that no more tables are on the stack than one class has.
+pub fn isolate_with(
+    file: &[u8],
+    attention: u8,
+    words: &[u64],
+    read: &[u8],
+    list: &mut [u8],
+    larger: usize,
+) -> Isolated
+    ensures { λ r. ⌜ outcomeOf r (now (list .exit)) ≡ isolate libraryLimits (now (file .entry)) attention (now (words .entry)) (now (read .entry)) (now (list .entry)) ⌝ }
+{
+    if larger == 0 {
         return isolate_full(file, attention, words, read, list);
     }
-    let i = isolate_middle(file, attention, words, read, list);
+    if larger == 1 {
+        let i = isolate_large(file, attention, words, read, list);
+        if is_exact(i) {
+            return i;
+        }
+        return isolate_with(file, attention, words, read, list, larger - 1);
+    }
+    if larger == 2 {
+        let i = isolate_middle(file, attention, words, read, list);
+        if is_exact(i) {
+            return i;
+        }
+        return isolate_with(file, attention, words, read, list, larger - 1);
+    }
+    let i = isolate_small(file, attention, words, read, list);
     if is_exact(i) {
         return i;
     }
-    isolate_full(file, attention, words, read, list)
+    isolate_with(file, attention, words, read, list, larger - 1)
 }

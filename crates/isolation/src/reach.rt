@@ -9,6 +9,8 @@ ghost use Prim.Native.Nat.{ℕ, _<_};
 ghost use mathlib.Core.List.{List, [], _∷_};
 ghost use mathlib.Core.Path.{_≡_};
 ghost use lib.ListN.{length};
+ghost use Rattle.limits.specs.declared.LimitSet.{LimitSet};
+ghost use Rattle.limits.specs.Limits.{limitsOf};
 ghost use Rattle.format.specs.Lookup.{at, NodeEntry, nodeEntries};
 ghost use Rattle.format.specs.Parsed.{done};
 ghost use Rattle.format.specs.Tree.{Chip};
@@ -29,8 +31,8 @@ fn activity_at(
     words: &[u64],
     read: &[u8],
 ) -> Activity
-    ensures { λ r. ⌜ (IndexOf (now (index .entry)) (now (keys .entry)) → (c : Chip) (end k : ℕ) (e : NodeEntry)
-        → verdict (now (s .entry)) ≡ done c end
+    ensures { λ r. ⌜ (IndexOf (now (index .entry)) (now (keys .entry)) → (of : LimitSet) (c : Chip) (end k : ℕ) (e : NodeEntry)
+        → verdict (limitsOf of) (now (s .entry)) ≡ done c end
         → at k (nodeEntries c) ≡ e ∷ []
         → place ≡ e .instance .place
         → (r .word ≡ activeWord (now (keys .entry)) (now (words .entry)) (now (read .entry)) attention e) × (r .unread ≡ unreadPlace (now (keys .entry)) (now (read .entry)) attention e)) ⌝ }
@@ -54,7 +56,7 @@ pub fn reach(
     active: &mut [u64],
     unread: &mut [u64],
 ) -> Walked
-    ensures { λ r. ⌜ ((nodes : List ℕ) (t : Tabled (now (s .entry)) (now (keys .entry)) (now (index .entry)) nodes (now (places .entry)) (now (child .entry)))
+    ensures { λ r. ⌜ ((of : LimitSet) (nodes : List ℕ) (t : Tabled of (now (s .entry)) (now (keys .entry)) (now (index .entry)) nodes (now (places .entry)) (now (child .entry)))
         → length (now (active .entry)) ≡ length (now (places .entry))
         → length (now (unread .entry)) ≡ length (now (places .entry))
         → root < length (now (places .entry))
@@ -65,7 +67,7 @@ pub fn reach(
     let n = places.len();
     let mut w = Walk::start(root);
     let mut steps = 0;
-    while steps < format::NODE_LIMIT {
+    while steps < limits::NODE_INSTANCES {
         let k = w.first();
         if n <= k {
             let m = w.marks;

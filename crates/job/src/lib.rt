@@ -37,9 +37,9 @@ fn wanted_type() -> u8 {
 pub fn run() -> usize
     ensures { λ r. ⌜ Printed r ⌝ }
 {
-    let mut chip = [0u8; 65_537];
+    let mut chip = [0u8; limits::PROGRAM_BYTES + 1];
     let m = read_file(b"chip.cdb", &mut chip);
-    let mut readings = [0u8; 16_385];
+    let mut readings = [0u8; limits::PROGRAM_REGISTER_INSTANCES * 16 + 1];
     let n = read_file(b"readings.bin", &mut readings);
     let attention = wanted_type();
     let mut text = [0u8; 152_000];

@@ -8,7 +8,7 @@ use lib.Dec.{eqb}
 use borrow.Author.Tests.{eq-eqb, ne-eqb}
 use Rattle.format.specs.Fields.{fieldAt}
 use Rattle.format.specs.ExpressionLayout.{exprAt}
-use Rattle.format.specs.Limits.{levels}
+use Rattle.limits.specs.Limits.{levels}
 use Rattle.format.specs.Lookup.{some}
 use Rattle.format.specs.NodeLayout.{ruleAt, nodeInstanceAt}
 use Rattle.format.specs.Parsed.{done, rowAt}
@@ -72,7 +72,7 @@ rule-place-some s attention n before at {rs} e =
     (row-every (ruleAt s true) (λ r. 0 < r .place) (λ b a r k d. field-place s a (rule-fields s a b d .0)) n before at e)
 
 -- And for the rules of a node instance that was read.
-pub instance-rule-some : (s : List ℕ) (attention at total : ℕ) (before : List NodeInstance) {i : NodeInstance} {m : ℕ} → nodeInstanceAt s true total before at ≡ done i m
+pub instance-rule-some : (s : List ℕ) (attention at limit total : ℕ) (before : List NodeInstance) {i : NodeInstance} {m : ℕ} → nodeInstanceAt limit s true total before at ≡ done i m
     → not (eqb (rulePlace attention (i .rules)) 0) ≡ some (λ r. eqb (r .attention) attention) (i .rules)
-instance-rule-some s attention at total before e =
-    let q = instance-parts s at total before e in rule-place-some s attention (q .head .rules) [] (q .rules-at) (q .rules)
+instance-rule-some s attention at limit total before e =
+    let q = instance-parts s at limit total before e in rule-place-some s attention (q .head .rules) [] (q .rules-at) (q .rules)

@@ -10,6 +10,7 @@ use borrow.Author.Tests.{eqb-true, eqb-false, ne-eqb, lt-ltb, le-ltb}
 use lib.Dec.{eqb}
 use lib.ListN.{length, getD, set, length-set, getD-replicate}
 use lib.Seq.{getD-set-same, getD-set-other}
+use Rattle.limits.specs.Limits.{libraryLimits}
 use Rattle.numbers.proofs.Bools.{either}
 use Rattle.format.specs.Fields.{member}
 use Rattle.format.specs.Lookup.{position, at, gathered, NodeEntry}
@@ -80,7 +81,7 @@ module _ (nodes : List ℕ) (b : ℕ) where
       ∙ ap (λ v. numberOr nodes v (forBit b (i .children))) (childless-at 64 h)
 
 -- A place that holds a number, and what it says.
-module _ (nodes : List ℕ) (size : ℕ) (few : size ≤ 256) (table : List ℕ) (k : ℕ) (h : k < length table) where
+module _ (nodes : List ℕ) (size : ℕ) (few : size ≤ libraryLimits .nodeInstances) (table : List ℕ) (k : ℕ) (h : k < length table) where
   held-none : getD table k 0 ≡ 0xFFFF → childAt size table k ≡ none
   unfolding childAt
   held-none e = let l : size ≤ getD table k 0 = omega arith in simp (lt-ltb _ _ h, le-ltb _ _ l)
@@ -101,7 +102,7 @@ module _ (nodes : List ℕ) (size : ℕ) (few : size ≤ 256) (table : List ℕ)
       (at-most j ks)
 
 -- A table of the children of some node instances, whatever stands behind them, says of each bit what its child entry says.
-module _ (nodes : List ℕ) (es : List NodeEntry) (few : length es ≤ 256) (fit : Every (λ e. ChildrenFit nodes (length es) (e .instance)) es)
+module _ (nodes : List ℕ) (es : List NodeEntry) (few : length es ≤ libraryLimits .nodeInstances) (fit : Every (λ e. ChildrenFit nodes (length es) (e .instance)) es)
     (i : ℕ) {e : NodeEntry} (q : at i es ≡ e ∷ []) (b : ℕ) (h : b < 64) where
   pub table-child : (rest : List ℕ)
       → childAt (length es) (gathered (λ e. childRow nodes (e .instance)) es ++ rest) (i * 64 + b)

@@ -30,7 +30,7 @@ fn find_rule(s: &[u8], at: usize, n: u8, attention: u8) -> usize
                 if t == attention {
                     return a;
                 }
-                let e = expression_at(s, a, format::LEVELS);
+                let e = expression_at(s, a, limits::LEVELS);
                 match e {
                     NextRead::Next(next) => {
                         place = next;
@@ -51,12 +51,12 @@ fn find_rule(s: &[u8], at: usize, n: u8, attention: u8) -> usize
 
 // The place of the expression of a node instance's rule for an attention type; 0 where it has none.
 pub fn rule_place(s: &[u8], at: usize, attention: u8) -> usize
-    ensures { λ r. ⌜ ((total : ℕ) (before : List NodeInstance) (i : NodeInstance) (m : ℕ)
-        → nodeInstanceAt (now (s .entry)) true total before at ≡ done i m
+    ensures { λ r. ⌜ ((limit total : ℕ) (before : List NodeInstance) (i : NodeInstance) (m : ℕ)
+        → nodeInstanceAt limit (now (s .entry)) true total before at ≡ done i m
         → r ≡ rulePlace attention (i .rules)) ⌝ }
 {
     let none = [0u8; 1];
-    let top = instance_head_at(s, at, 0, &none);
+    let top = instance_head_at(s, at, 0, limits::NODE_INSTANCES, &none);
     match top {
         InstanceHeadRead::Head(h, a) => {
             let rules = h.rules;

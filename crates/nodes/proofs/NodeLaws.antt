@@ -10,7 +10,7 @@ use lib.Dec.{leb, ltb}
 use Rattle.numbers.specs.Field.{field}
 use Rattle.numbers.proofs.Bools.{and-right}
 use Rattle.format.specs.declared.Refusal.{Refusal}
-use Rattle.format.specs.Limits.{nodeLimit, levels}
+use Rattle.limits.specs.Limits.{levels}
 use Rattle.format.specs.Parsed.{Parsed, done, refused, andThen, making, requiring, rowAt}
 use Rattle.format.specs.Fields.{fieldAt, countAt, typeAt, knownAttention, attentionAt, fresh}
 use Rattle.format.specs.ExpressionLayout.{exprAt}
@@ -31,11 +31,6 @@ use Rattle.fields.proofs.FieldLaws.{field-there}
 use Rattle.fields.proofs.Parsing.{Found, found, followed, passed, making-making, row-end, row-step, row-length, row-bound}
 use Rattle.fields.proofs.Steps.{goes-making, stops-making}
 use Rattle.fields.proofs.SeenLaws.{number-told, tells-is}
-
--- The limit of the code is the limit of the layout.
-pub node-limit : 256 ≡ nodeLimit
-unfolding nodeLimit
-node-limit = refl
 
 -- A capture does not look at those before.
 pub captures-blind : (s : List ℕ) (n at : ℕ) → rowAt (captureAt s) n [] at ≡ rowAt (λ before. captureAt s []) n [] at
@@ -100,12 +95,12 @@ child-few s before at {v} e =
     omega (arith, h, w)
 
 -- The head of an instance after those that the marks tell of.
-pub head-told : (s : List ℕ) (numbers : List ℕ) (begun at : ℕ) (table : List ℕ) {y : Parsed InstanceHead} → Tells (unmarked table) numbers
-    → y ≡ andThen (instanceNumberAt s (unmarked table) begun 256 at) (λ n a. andThen (fieldAt s a 1) λ c b. countsAt s n c b)
-    → y ≡ instanceHeadAt s true begun numbers at
+pub head-told : (limit : ℕ) (s : List ℕ) (numbers : List ℕ) (begun at : ℕ) (table : List ℕ) {y : Parsed InstanceHead} → Tells (unmarked table) numbers
+    → y ≡ andThen (instanceNumberAt s (unmarked table) begun limit at) (λ n a. andThen (fieldAt s a 1) λ c b. countsAt s n c b)
+    → y ≡ instanceHeadAt limit s true begun numbers at
 unfolding instanceHeadAt instanceNumberAt countsAt
-head-told s numbers begun at table t k =
-    k ∙ ap (λ q. andThen q (λ n a. andThen (fieldAt s a 1) λ c b. countsAt s n c b)) (number-told s at t refl node-limit)
+head-told limit s numbers begun at table t k =
+    k ∙ ap (λ q. andThen q (λ n a. andThen (fieldAt s a 1) λ c b. countsAt s n c b)) (number-told s at limit {begun = begun} t refl)
 
 -- An instance is its head and what follows.
 instance-body : {A B : Type 0} (p : Parsed A) (q : ℕ → Parsed B) (r : ℕ → Parsed (List Child)) (f : A → B → List Child → NodeInstance) (v : ℕ)
@@ -123,30 +118,29 @@ instance-body {A} {B} (done a m) q r f v e = second (q m)
     second (done b n) = third b (r n)
     second (refused k i) = refl
 
-module _ (s : List ℕ) (total : ℕ) (before : List NodeInstance) (at : ℕ) {begun : ℕ} {x : InstanceHeadRead} {y : Parsed ℕ} where
-  pub instance-told : {h : instance.InstanceHead} {a : ℕ} → begun ≡ total + length before → instanceHeadParsed x ≡ instanceHeadAt s true begun (map nodeNumber before) at → x ≡ InstanceHeadRead.Head h a
-      → y ≡ making (λ _. h .number) (nodeBodyAt s (h .captures) (h .rules) (h .children) a) → y ≡ making nodeNumber (nodeInstanceAt s true total before at)
+module _ (limit : ℕ) (s : List ℕ) (total : ℕ) (before : List NodeInstance) (at : ℕ) {begun : ℕ} {x : InstanceHeadRead} {y : Parsed ℕ} where
+  pub instance-told : {h : instance.InstanceHead} {a : ℕ} → begun ≡ total + length before → instanceHeadParsed x ≡ instanceHeadAt limit s true begun (map nodeNumber before) at → x ≡ InstanceHeadRead.Head h a
+      → y ≡ making (λ _. h .number) (nodeBodyAt s (h .captures) (h .rules) (h .children) a) → y ≡ making nodeNumber (nodeInstanceAt limit s true total before at)
   unfolding nodeInstanceAt nodeBodyAt
   instance-told {h} {a} e i g k = rw (← e) (goes-making instanceHeadParsed nodeNumber _ _ refl i g (k ∙ sym (instance-body _ _ _ _ (h .number) (λ x y z. refl))))
 
-  pub instance-stop : {r : Refusal} → begun ≡ total + length before → instanceHeadParsed x ≡ instanceHeadAt s true begun (map nodeNumber before) at → x ≡ InstanceHeadRead.Refused r → y ≡ refusedBy r
-      → y ≡ making nodeNumber (nodeInstanceAt s true total before at)
+  pub instance-stop : {r : Refusal} → begun ≡ total + length before → instanceHeadParsed x ≡ instanceHeadAt limit s true begun (map nodeNumber before) at → x ≡ InstanceHeadRead.Refused r → y ≡ refusedBy r
+      → y ≡ making nodeNumber (nodeInstanceAt limit s true total before at)
   unfolding nodeInstanceAt
   instance-stop e i g k = rw (← e) (stops-making instanceHeadParsed nodeNumber _ _ refl i g k)
 
 -- An instance that was read had room.
-pub instance-room : (g : NodeInstance → ℕ) (s : List ℕ) (total : ℕ) (before : List NodeInstance) (at : ℕ) {v m : ℕ}
-    → done v m ≡ making g (nodeInstanceAt s true total before at) → total + length before < 256
+pub instance-room : (limit : ℕ) (g : NodeInstance → ℕ) (s : List ℕ) (total : ℕ) (before : List NodeInstance) (at : ℕ) {v m : ℕ}
+    → done v m ≡ making g (nodeInstanceAt limit s true total before at) → total + length before < limit
 unfolding nodeInstanceAt instanceHeadAt
-instance-room g s total before at {v} {m} e =
-    let q = requiring (λ n. ltb (total + length before) nodeLimit) 8 at (fieldAt s at 1) in
-    let f = found g (nodeInstanceAt s true total before at) e in
-    let d = followed (instanceHeadAt s true (total + length before) (map nodeNumber before) at) _ (f .is) in
+instance-room limit g s total before at {v} {m} e =
+    let q = requiring (λ n. ltb (total + length before) limit) 8 at (fieldAt s at 1) in
+    let f = found g (nodeInstanceAt limit s true total before at) e in
+    let d = followed (instanceHeadAt limit s true (total + length before) (map nodeNumber before) at) _ (f .is) in
     let c = followed (requiring (fresh true (map nodeNumber before)) 7 at q) _ (d .is) in
     let i : q ≡ done (c .value) (c .place) = passed (fresh true (map nodeNumber before)) 7 at q (c .is) .1 in
-    let j : ltb (total + length before) nodeLimit ≡ true = passed (λ n. ltb (total + length before) nodeLimit) 8 at (fieldAt s at 1) i .0 in
-    let k : total + length before < nodeLimit = ltb-true _ _ j in
-    omega (arith, node-limit)
+    let j : ltb (total + length before) limit ≡ true = passed (λ n. ltb (total + length before) limit) 8 at (fieldAt s at 1) i .0 in
+    ltb-true _ _ j
 
 -- The head of a node after those that the IDs tell of.
 pub node-head-told : (s : List ℕ) (numbers : List ℕ) (at largest : ℕ) (ids : List ℕ) {y : Parsed NodeHead} → Tells (newAfter largest ids) numbers
@@ -156,12 +150,12 @@ unfolding nodeHeadAt
 node-head-told s numbers at largest ids t k = rw (← tells-is t) k
 
 -- A node is its head and its instances.
-pub node-told : (g : Node → Element) (s : List ℕ) (before : List Node) (at : ℕ) {total : ℕ} {y : Parsed Element}
+pub node-told : (limit : ℕ) (g : Node → Element) (s : List ℕ) (before : List Node) (at : ℕ) {total : ℕ} {y : Parsed Element}
     → total ≡ nodeTotal before
-    → y ≡ making g (andThen (nodeHeadAt s true (map nodeId before) at) λ h a. making (λ is. record { id = h .id; type = h .type; instances = is }) (rowAt (nodeInstanceAt s true total) (h .count) [] a))
-    → y ≡ making g (nodeAt s true before at)
+    → y ≡ making g (andThen (nodeHeadAt s true (map nodeId before) at) λ h a. making (λ is. record { id = h .id; type = h .type; instances = is }) (rowAt (nodeInstanceAt limit s true total) (h .count) [] a))
+    → y ≡ making g (nodeAt limit s true before at)
 unfolding nodeAt
-node-told g s before at {total} {y} e k = rw (← e) k
+node-told limit g s before at {total} {y} e k = rw (← e) k
 
 module _ {B : Type 0} (g : B → Element) (p : Parsed NodeHead) (f : NodeHead → ℕ → Parsed B) {y : Parsed Element} where
   pub head-then : {x : NodeHeadRead} {h : declared.NodeHead} {n : ℕ} → nodeHeadParsed x ≡ p → x ≡ NodeHeadRead.Head h n
@@ -183,22 +177,22 @@ head-counted s ids at {h} {m} e =
     let k : 0 < f .value = ltb-true _ _ j in
     omega arith
 
-pub node-size : (s : List ℕ) (before : List Node) (at : ℕ) {i k m : ℕ} → done (record { id = i; instances = k }) m ≡ making nodeElement (nodeAt s true before at)
-    → (0 < k) × (nodeTotal before + k ≤ 256)
+pub node-size : (limit : ℕ) (s : List ℕ) (before : List Node) (at : ℕ) {i k m : ℕ} → done (record { id = i; instances = k }) m ≡ making nodeElement (nodeAt limit s true before at)
+    → (0 < k) × (nodeTotal before + k ≤ limit)
 unfolding nodeAt making
-node-size s before at {i} {k} {m} e =
-    let f : Found nodeElement (nodeAt s true before at) (record { id = i; instances = k }) m = found nodeElement (nodeAt s true before at) e in
+node-size limit s before at {i} {k} {m} e =
+    let f : Found nodeElement (nodeAt limit s true before at) (record { id = i; instances = k }) m = found nodeElement (nodeAt limit s true before at) e in
     let d = followed (nodeHeadAt s true (map nodeId before) at) _ (f .is) in
     let h = d .value in
-    let w = rowAt (nodeInstanceAt s true (nodeTotal before)) (h .count) [] (d .place) in
+    let w = rowAt (nodeInstanceAt limit s true (nodeTotal before)) (h .count) [] (d .place) in
     let j : Found (λ is. record { id = h .id; type = h .type; instances = is }) w (f .value) m = found _ w (sym (d .next)) in
-    let l : length (j .value) ≡ h .count = row-length (nodeInstanceAt s true (nodeTotal before)) (h .count) [] (d .place) (j .is) in
+    let l : length (j .value) ≡ h .count = row-length (nodeInstanceAt limit s true (nodeTotal before)) (h .count) [] (d .place) (j .is) in
     let n : length (f .value .instances) ≡ k = ap (λ x. x .instances) (f .made) in
     let o : j .value ≡ f .value .instances = ap (λ x. x .instances) (j .made) in
     let c : 0 < h .count = head-counted s (map nodeId before) at (d .is) in
-    let b : nodeTotal before + 0 + h .count ≤ 256 =
-    row-bound (nodeInstanceAt s true (nodeTotal before)) (nodeTotal before) 256
-    (λ x y a z g. instance-room nodeNumber s (nodeTotal before) x y (sym (ap (making nodeNumber) g)))
+    let b : nodeTotal before + 0 + h .count ≤ limit =
+    row-bound (nodeInstanceAt limit s true (nodeTotal before)) (nodeTotal before) limit
+    (λ x y a z g. instance-room limit nodeNumber s (nodeTotal before) x y (sym (ap (making nodeNumber) g)))
     (h .count) [] (d .place) (j .is) c in
     let q : length (j .value) ≡ k = ap length o ∙ n in
     (omega arith, omega arith)

@@ -114,7 +114,7 @@ fn rule_at(s: &[u8], at: usize, seen: &[u8]) -> ByteRead
     let b = new_attention_at(s, at, seen);
     match b {
         ByteRead::Byte(attention, a) => {
-            let e = expression_at(s, a, format::LEVELS);
+            let e = expression_at(s, a, limits::LEVELS);
             match e {
                 NextRead::Next(end) => ByteRead::Byte(attention, end),
                 NextRead::Refused(r) => ByteRead::Refused(r),
@@ -245,13 +245,19 @@ fn counts_at(s: &[u8], at: usize, number: u8, captures: u8) -> InstanceHeadRead
     }
 }
 
-// What a node instance starts with. `seen` marks the numbers before it in the node, and `begun` instances stand before it in the file.
-pub fn instance_head_at(s: &[u8], at: usize, begun: usize, seen: &[u8]) -> InstanceHeadRead
+// What a node instance starts with. `seen` marks the numbers before it in the node; `begun` instances stand before it in the file, which may have `limit`.
+pub fn instance_head_at(
+    s: &[u8],
+    at: usize,
+    begun: usize,
+    limit: usize,
+    seen: &[u8],
+) -> InstanceHeadRead
     ensures { λ r. ⌜ ((numbers : List ℕ)
         → Tells (unmarked (now (seen .entry))) numbers
-        → instanceHeadParsed r ≡ instanceHeadAt (now (s .entry)) true begun numbers at) ⌝ }
+        → instanceHeadParsed r ≡ instanceHeadAt limit (now (s .entry)) true begun numbers at) ⌝ }
 {
-    let b = instance_number_at(s, at, begun, format::NODE_LIMIT, seen);
+    let b = instance_number_at(s, at, begun, limit, seen);
     match b {
         ByteRead::Byte(number, a) => {
             let c = byte_at(s, a);
@@ -281,14 +287,14 @@ fn node_body_at(s: &[u8], at: usize, h: InstanceHead) -> NextRead
     }
 }
 
-// A node instance: its number. `seen` marks the numbers before it in the node, and `begun` instances stand before it in the file.
-pub fn node_instance_at(s: &[u8], at: usize, begun: usize, seen: &[u8]) -> ByteRead
+// A node instance: its number. `seen` marks the numbers before it in the node; `begun` instances stand before it in the file, which may have `limit`.
+pub fn node_instance_at(s: &[u8], at: usize, begun: usize, limit: usize, seen: &[u8]) -> ByteRead
     ensures { λ r. ⌜ ((total : ℕ) (before : List NodeInstance)
         → Tells (unmarked (now (seen .entry))) (map nodeNumber before)
         → begun ≡ total + length before
-        → byteParsed r ≡ making nodeNumber (nodeInstanceAt (now (s .entry)) true total before at)) ⌝ }
+        → byteParsed r ≡ making nodeNumber (nodeInstanceAt limit (now (s .entry)) true total before at)) ⌝ }
 {
-    let top = instance_head_at(s, at, begun, seen);
+    let top = instance_head_at(s, at, begun, limit, seen);
     match top {
         InstanceHeadRead::Head(h, a) => {
             let number = h.number;

@@ -9,9 +9,11 @@ use native.Mathlib.Omega.{arith}
 use lib.Dec.{eqb}
 use lib.ListN.{length}
 use lib.Seq.{ext-getD}
+use Rattle.limits.proofs.LimitsLaws.{nodes-within}
+use Rattle.limits.specs.Limits.{libraryLimits, limitsOf}
+use Rattle.limits.specs.declared.LimitSet.{LimitSet}
 use Rattle.numbers.proofs.Bools.{either, clash}
 use Rattle.format.specs.Finding.{firstOf, ruleFor, rootFor, childFor, childPosition}
-use Rattle.format.specs.Limits.{nodeLimit}
 use Rattle.format.specs.Lookup.{some, position, at, gathered, NodeEntry, nodeEntries, nodeNamed, nodePosition}
 use Rattle.format.specs.Rules.{Every, Distinct, Meets}
 use Rattle.format.specs.Tree.{Rule, Child, Root, NodeInstance, Chip}
@@ -77,10 +79,9 @@ module _ (nodes : List ℕ) (attention : ℕ) where
           ap (λ (y : Root). positionIn nodes (y .id) (y .number)) w
       go false e r = r (sym (at-next (position wanted ts) t ts) ∙ e)
 
-module _ (c : Chip) (meets : Meets c) where
-  few : length (nodeEntries c) ≤ 256
-  unfolding nodeLimit
-  few = meets .limits .nodes
+module _ (of : LimitSet) (c : Chip) (meets : Meets (limitsOf of) c) where
+  few : length (nodeEntries c) ≤ libraryLimits .nodeInstances
+  few = omega (arith, meets .within .nodes, nodes-within of)
 
   -- Children
 
@@ -121,7 +122,7 @@ module _ (c : Chip) (meets : Meets c) where
   child-column =
       gathered-same _ _ (nodeEntries c)
       (every-map _ _ (λ (e : NodeEntry) h. row-same (e .instance) (h .0) (h .1)) (nodeEntries c)
-      (every-both _ _ (nodeEntries c) (meets .unique .children) (entry-children c (layout-of meets) (meets .present))))
+      (every-both _ _ (nodeEntries c) (meets .unique .children) (entry-children of c (layout-of (limitsOf of) meets) (meets .present))))
 
   -- The root
 

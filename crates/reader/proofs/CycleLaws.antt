@@ -7,15 +7,17 @@ use mathlib.Core.Option.{some}
 use mathlib.Core.Path.{_≡_, refl, sym, _∙_, ap, subst, fun-ext}
 use native.Mathlib.Omega.{arith}
 use lib.Dec.{eqb}
-use lib.ListN.{length, getD, drop, replicate, length-replicate, length-map, length-append}
+use lib.ListN.{length, getD, drop, length-map, length-append}
 use borrow.Author.Tests.{eqb-true, eq-eqb, ltb-true, lt-ltb}
+use Rattle.limits.proofs.LimitsLaws.{nodes-within}
+use Rattle.limits.specs.Limits.{libraryLimits, limitsOf}
+use Rattle.limits.specs.declared.LimitSet.{LimitSet}
 use Rattle.numbers.specs.BigEndian.{Bytes}
 use Rattle.numbers.proofs.Bools.{clash, same-truth}
 use Rattle.graph.specs.Chains.{names}
 use Rattle.graph.specs.Paths.{onCycle}
 use Rattle.format.specs.Cycles.{leads, childEdge, cyclesFrom, cycleFaults}
 use Rattle.format.specs.FileLayout.{fileAt}
-use Rattle.format.specs.Limits.{nodeLimit}
 use Rattle.format.specs.Lookup as lookup
 use Rattle.format.specs.Lookup.{position, at, gathered, NodeEntry, nodeEntries, nodeNamed, nodePosition}
 use Rattle.format.specs.Parsed.{done, refused}
@@ -42,7 +44,7 @@ use Rattle.format.proofs.PositionsLaws.{at-most, some-position, some-out}
 use Rattle.tables.proofs.KeysLaws.{node-position-in}
 use Rattle.reader.proofs.NameLaws.{layout-meets}
 
-module _ (c : Chip) (meets : LayoutMeets c) (present : NamesPresent c) where
+module _ (of : LimitSet) (c : Chip) (meets : LayoutMeets (limitsOf of) c) (present : NamesPresent c) where
   abbrev entries : List NodeEntry
   entries = nodeEntries c
 
@@ -79,7 +81,7 @@ module _ (c : Chip) (meets : LayoutMeets c) (present : NamesPresent c) where
       (λ (e : NodeEntry) h. record { unique = h .0; present = every-map _ _ (λ (k : Child) f. rw (f .0) (f .1)) (e .instance .children) (h .1) })
       entries (every-both _ _ entries (meets .unique .children) entry-children)
 
-  module _ (few : length entries ≤ 256) (rest : List ℕ) where
+  module _ (few : length entries ≤ libraryLimits .nodeInstances) (rest : List ℕ) where
     abbrev table : List ℕ
     table = gathered (λ e. childRow (nodeKeys c) (e .instance)) entries ++ rest
 
@@ -224,16 +226,15 @@ rows-length nodes (e ∷ es) =
     length-append (childRow nodes (e .instance)) _ ∙ (let a = child-row-length nodes (e .instance) in let b = rows-length nodes es in omega arith)
 
 -- What the code finds in a table that begins with the children of each.
-module _ (s : List ℕ) (bytes : Bytes s) (c : Chip) {end : ℕ} (file : fileAt s true 0 ≡ done c end) (clean : referenceFaults c ≡ []) (places table : List ℕ)
+module _ (of : LimitSet) (s : List ℕ) (bytes : Bytes s) (c : Chip) {end : ℕ} (file : fileAt (limitsOf of) s true 0 ≡ done c end) (clean : referenceFaults c ≡ []) (places table : List ℕ)
     (places-are : places ≡ nodePlaces c) (long : length (nodeEntries c) * 64 ≤ length table) {child : List ℕ}
     (filled : child ≡ written table 0 (gathered (λ e. childRow (nodeKeys c) (e .instance)) (nodeEntries c)))
     {k : ℕ} (found : k ≡ firstCycle child (length places)) (m : ℕ) where
   size-is : length places ≡ length (nodeEntries c)
   size-is = ap length places-are ∙ length-map (nodeEntries c) entryPlace
 
-  room : length (nodeEntries c) ≤ 256
-  unfolding nodeLimit
-  room = layout-meets s bytes file .limits .nodes
+  room : length (nodeEntries c) ≤ libraryLimits .nodeInstances
+  room = omega (arith, layout-meets (limitsOf of) s bytes file .within .nodes, nodes-within of)
 
   found-is : k ≡ firstCycle (gathered (λ e. childRow (nodeKeys c) (e .instance)) (nodeEntries c) ++ drop (length (gathered (λ e. childRow (nodeKeys c) (e .instance)) (nodeEntries c))) table) (length (nodeEntries c))
   found-is =
@@ -244,12 +245,7 @@ module _ (s : List ℕ) (bytes : Bytes s) (c : Chip) {end : ℕ} (file : fileAt 
   pub fault-found : k < length places → refused 14 (getD places k 0) ≡ judgedAt (cycleFaults c) m
   fault-found h =
       ap (λ z. refused 14 (getD z k 0)) places-are
-      ∙ cycle-found c (layout-meets s bytes file) (references-out c clean .0) room _ found-is m (omega (arith, size-is))
+      ∙ cycle-found of c (layout-meets (limitsOf of) s bytes file) (references-out c clean .0) room _ found-is m (omega (arith, size-is))
 
   pub fault-none : length places ≤ k → done tt m ≡ judgedAt (cycleFaults c) m
-  fault-none h = cycle-none c (layout-meets s bytes file) (references-out c clean .0) room _ found-is m (omega (arith, size-is))
-
--- A table for as many node instances as a file may have.
-pub children-long : (s : List ℕ) → Bytes s → {c : Chip} {end : ℕ} → fileAt s true 0 ≡ done c end → length (nodeEntries c) * 64 ≤ length (replicate {A = ℕ} 16384 0)
-unfolding nodeLimit
-children-long s bytes {c} file = let h : length (nodeEntries c) ≤ 256 = layout-meets s bytes file .limits .nodes in rw (length-replicate {A = ℕ} 16384 0) (omega arith)
+  fault-none h = cycle-none of c (layout-meets (limitsOf of) s bytes file) (references-out c clean .0) room _ found-is m (omega (arith, size-is))

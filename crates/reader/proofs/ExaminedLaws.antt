@@ -8,6 +8,8 @@ use native.Mathlib.Omega.{arith}
 use lib.Dec.{leb}
 use lib.ListN.{length, take, drop}
 use borrow.Author.Tests.{le-leb, lt-leb, leb-true}
+use Rattle.limits.specs.Limits.{limitsOf}
+use Rattle.limits.specs.declared.LimitSet.{LimitSet}
 use Rattle.numbers.specs.BigEndian.{Bytes}
 use Rattle.numbers.proofs.Bools.{and-left, and-right, same-truth}
 use Rattle.format.specs.FileLayout.{fileAt}
@@ -110,59 +112,59 @@ same-room child h i j k l m n = rw (h, i, j, k, l)
 
 -- The answer
 
-module _ (t : Lengths) (s : List ℕ) where
-  room-refused : {n p : ℕ} → refused n p ≡ wholeAt s → roomFor t s ≡ true
+module _ (of : LimitSet) (t : Lengths) (s : List ℕ) where
+  room-refused : {n p : ℕ} → refused n p ≡ wholeAt (limitsOf of) s → roomFor (limitsOf of) t s ≡ true
   unfolding roomFor roomForLayout
   room-refused e = rw (← e)
 
-  pub room-laid : {l : Summary} {end : ℕ} → done l end ≡ wholeAt s → roomFor t s ≡ roomOf t (l .registerInstances) (l .nodeInstances)
+  pub room-laid : {l : Summary} {end : ℕ} → done l end ≡ wholeAt (limitsOf of) s → roomFor (limitsOf of) t s ≡ roomOf t (l .registerInstances) (l .nodeInstances)
   unfolding roomFor roomForLayout
   room-laid e = rw (← e)
 
   -- A layout that is refused.
-  pub in-refused : {n p : ℕ} → refused n p ≡ wholeAt s → refused n p ≡ cond (roomFor t s) (making countsOf (verdict s)) (refused 43 0)
-  in-refused e = rw (room-refused e) (examined-refused s e)
+  pub in-refused : {n p : ℕ} → refused n p ≡ wholeAt (limitsOf of) s → refused n p ≡ cond (roomFor (limitsOf of) t s) (making countsOf (verdict (limitsOf of) s)) (refused 43 0)
+  in-refused e = rw (room-refused e) (examined-refused (limitsOf of) s e)
 
-  module _ {l : Summary} {end : ℕ} (w : done l end ≡ wholeAt s) where
+  module _ {l : Summary} {end : ℕ} (w : done l end ≡ wholeAt (limitsOf of) s) where
     -- A table that is too short.
-    pub in-short : {b : Bool} → b ≡ roomOf t (l .registerInstances) (l .nodeInstances) → b ≡ false → refused 43 0 ≡ cond (roomFor t s) (making countsOf (verdict s)) (refused 43 0)
+    pub in-short : {b : Bool} → b ≡ roomOf t (l .registerInstances) (l .nodeInstances) → b ≡ false → refused 43 0 ≡ cond (roomFor (limitsOf of) t s) (making countsOf (verdict (limitsOf of) s)) (refused 43 0)
     in-short r e = rw (room-laid w ∙ sym r ∙ e)
 
     -- Tables with room.
-    pub in-roomy : {b : Bool} → b ≡ roomOf t (l .registerInstances) (l .nodeInstances) → b ≡ true → {x : Parsed CheckValues} → x ≡ making countsOf (verdict s)
-        → x ≡ cond (roomFor t s) (making countsOf (verdict s)) (refused 43 0)
+    pub in-roomy : {b : Bool} → b ≡ roomOf t (l .registerInstances) (l .nodeInstances) → b ≡ true → {x : Parsed CheckValues} → x ≡ making countsOf (verdict (limitsOf of) s)
+        → x ≡ cond (roomFor (limitsOf of) t s) (making countsOf (verdict (limitsOf of) s)) (refused 43 0)
     in-roomy r e d = rw (room-laid w ∙ sym r ∙ e) d
 
   -- What an answer says of the room and of the verdict.
-  module _ {r : LayoutRead} (is : making layoutValues (layoutParsed r) ≡ cond (roomFor t s) (making countsOf (verdict s)) (refused 43 0)) where
-    pub done-room : {l : Layout} → r ≡ LayoutRead.Done l → roomFor t s ≡ true
+  module _ {r : LayoutRead} (is : making layoutValues (layoutParsed r) ≡ cond (roomFor (limitsOf of) t s) (making countsOf (verdict (limitsOf of) s)) (refused 43 0)) where
+    pub done-room : {l : Layout} → r ≡ LayoutRead.Done l → roomFor (limitsOf of) t s ≡ true
     unfolding making
-    done-room {l} e = go (roomFor t s) (sym (ap (λ r. making layoutValues (layoutParsed r)) e) ∙ is)
+    done-room {l} e = go (roomFor (limitsOf of) t s) (sym (ap (λ r. making layoutValues (layoutParsed r)) e) ∙ is)
       where
-        go : (b : Bool) → done (layoutValues (laidOut l)) (l .end) ≡ cond b (making countsOf (verdict s)) (refused 43 0) → b ≡ true
+        go : (b : Bool) → done (layoutValues (laidOut l)) (l .end) ≡ cond b (making countsOf (verdict (limitsOf of) s)) (refused 43 0) → b ≡ true
         go true e = refl
         go false e = never (sym e)
 
     pub refused-room : {x : Refusal} → r ≡ LayoutRead.Refused x
-        → ((roomFor t s ≡ true) × (verdict s ≡ refused (numberOf (x .kind)) (x .place))) ⊎ ((roomFor t s ≡ false) × (numberOf (x .kind) ≡ 43) × (x .place ≡ 0))
+        → ((roomFor (limitsOf of) t s ≡ true) × (verdict (limitsOf of) s ≡ refused (numberOf (x .kind)) (x .place))) ⊎ ((roomFor (limitsOf of) t s ≡ false) × (numberOf (x .kind) ≡ 43) × (x .place ≡ 0))
     unfolding making
-    refused-room {x} e = go (roomFor t s) (sym (ap (λ r. making layoutValues (layoutParsed r)) e) ∙ is)
+    refused-room {x} e = go (roomFor (limitsOf of) t s) (sym (ap (λ r. making layoutValues (layoutParsed r)) e) ∙ is)
       where
-        go : (b : Bool) → refused (numberOf (x .kind)) (x .place) ≡ cond b (making countsOf (verdict s)) (refused 43 0)
-            → ((b ≡ true) × (verdict s ≡ refused (numberOf (x .kind)) (x .place))) ⊎ ((b ≡ false) × (numberOf (x .kind) ≡ 43) × (x .place ≡ 0))
-        go true e = inl (refl, missed countsOf (verdict s) e)
+        go : (b : Bool) → refused (numberOf (x .kind)) (x .place) ≡ cond b (making countsOf (verdict (limitsOf of) s)) (refused 43 0)
+            → ((b ≡ true) × (verdict (limitsOf of) s ≡ refused (numberOf (x .kind)) (x .place))) ⊎ ((b ≡ false) × (numberOf (x .kind) ≡ 43) × (x .place ≡ 0))
+        go true e = inl (refl, missed countsOf (verdict (limitsOf of) s) e)
         go false e = inr (refl, (let z : numberOf (x .kind) ≡ 43 = cc in z), (let z : x .place ≡ 0 = cc in z))
 
 -- The tables
 
 -- The rows of a layout's instances are the tables of its chip.
-pub laid-tables : {s : List ℕ} {l : Summary} {end : ℕ} {c : Chip} → Laid s l end c → (keys₀ kinds₀ names₀ wanted₀ places₀ : List ℕ) (child : ℕ) {keys kinds names wanted places : List ℕ}
+pub laid-tables : (of : LimitSet) {s : List ℕ} {l : Summary} {end : ℕ} {c : Chip} → Laid (limitsOf of) s l end c → (keys₀ kinds₀ names₀ wanted₀ places₀ : List ℕ) (child : ℕ) {keys kinds names wanted places : List ℕ}
     → Roomy (record { keys = length keys₀; kinds = length kinds₀; names = length names₀; wanted = length wanted₀; places = length places₀; child = child }) (l .registerInstances) (l .nodeInstances)
     → pair keys kinds ≡ filled (pair keys₀ kinds₀) 0 (map registerRow (gathered entriesOf (c .registers)))
     → _≡_ {A = Rows} (record { keys = names; kinds = wanted; places = places }) (filled (record { keys = names₀; kinds = wanted₀; places = places₀ }) 0 (map nodeRow (gathered nodeEntriesOf (c .nodes))))
     → TablesOf c (take (l .registerInstances) keys) (take (l .registerInstances) kinds) (take (l .nodeInstances) names) (take (l .nodeInstances) wanted) (take (l .nodeInstances) places)
 unfolding registerEntries nodeEntries
-laid-tables {c = c} d keys₀ kinds₀ names₀ wanted₀ places₀ child r e f =
+laid-tables of {c = c} d keys₀ kinds₀ names₀ wanted₀ places₀ child r e f =
     let n = node-tables c _ _ (d .nodeCount) (r .names) (r .wanted) (r .places) f in
     record {
       keys-are = register-keys c _ _ (d .registerCount) e (r .keys);
@@ -172,26 +174,26 @@ laid-tables {c = c} d keys₀ kinds₀ names₀ wanted₀ places₀ child r e f 
       places-are = n .2;
     }
 
-module _ (s : List ℕ) (bytes : Bytes s) (l : Layout) (w : done (laidOut l) (l .end) ≡ wholeAt s) where
+module _ (of : LimitSet) (s : List ℕ) (bytes : Bytes s) (l : Layout) (w : done (laidOut l) (l .end) ≡ wholeAt (limitsOf of) s) where
   abbrev pub the-chip : Chip
-  the-chip = whole-out s w .parts .chip
+  the-chip = whole-out (limitsOf of) s w .parts .chip
 
-  pub file-is : fileAt s true 0 ≡ done the-chip (l .end)
-  file-is = whole-out s w .parts .file
+  pub file-is : fileAt (limitsOf of) s true 0 ≡ done the-chip (l .end)
+  file-is = whole-out (limitsOf of) s w .parts .file
 
-  pub laid-is : Laid s (laidOut l) (l .end) the-chip
-  laid-is = laid s bytes the-chip (sym (whole-out s w .layout)) file-is
+  pub laid-is : Laid (limitsOf of) s (laidOut l) (l .end) the-chip
+  laid-is = laid (limitsOf of) s bytes the-chip (sym (whole-out (limitsOf of) s w .layout)) file-is
 
   children-room : (table : List ℕ) → l .«node_instances» * 64 ≤ length table → length (childColumn the-chip) ≤ length table
   children-room table h = let k = places-length the-chip (nodeEntries the-chip) in let e = laid-is .nodeCount in omega arith
 
   -- The tables of an accepted file, as they are filled.
-  pub examined : verdict s ≡ done the-chip (l .end) → {keys index names places child : List ℕ} (table : List ℕ)
+  pub examined : verdict (limitsOf of) s ≡ done the-chip (l .end) → {keys index names places child : List ℕ} (table : List ℕ)
       → l .«register_instances» ≤ length keys → l .«node_instances» ≤ length names → l .«node_instances» ≤ length places → l .«node_instances» * 64 ≤ length table
       → take (l .«register_instances») keys ≡ registerKeys the-chip → IndexOf index (take (l .«register_instances») keys)
       → take (l .«node_instances») names ≡ nodeKeys the-chip → take (l .«node_instances») places ≡ nodePlaces the-chip
       → child ≡ written table 0 (gathered (λ e. childRow (nodeKeys the-chip) (e .instance)) (nodeEntries the-chip))
-      → Examined s l keys index names places child
+      → Examined of s l keys index names places child
   examined v table a b d h k i n p e =
       record {
         chip = the-chip;
@@ -210,10 +212,10 @@ module _ (s : List ℕ) (bytes : Bytes s) (l : Layout) (w : done (laidOut l) (l 
         places-are = p;
         rest = drop (length (childColumn the-chip)) table;
         children-are =
-            e ∙ ap (written table 0) (child-column the-chip (verdict-meets s bytes v)) ∙ written-front table (childColumn the-chip) (children-room table h);
+            e ∙ ap (written table 0) (child-column of the-chip (verdict-meets (limitsOf of) s bytes v)) ∙ written-front table (childColumn the-chip) (children-room table h);
       }
 
 -- Two answers that are one hold the same tables.
-pub same-layout : (s : List ℕ) {l k : Layout} → LayoutRead.Done l ≡ LayoutRead.Done k → {keys index names places child : List ℕ} → Examined s l keys index names places child
-    → Examined s k keys index names places child
-same-layout s {l} {k} e {keys} {index} {names} {places} {child} x = let z : l ≡ k = cc in subst (λ l. Examined s l keys index names places child) z x
+pub same-layout : (of : LimitSet) (s : List ℕ) {l k : Layout} → LayoutRead.Done l ≡ LayoutRead.Done k → {keys index names places child : List ℕ} → Examined of s l keys index names places child
+    → Examined of s k keys index names places child
+same-layout of s {l} {k} e {keys} {index} {names} {places} {child} x = let z : l ≡ k = cc in subst (λ l. Examined of s l keys index names places child) z x

@@ -5,10 +5,10 @@ use mathlib.Core.List.{List, [], _∷_, _++_, map, map-map}
 use mathlib.Core.Path.{_≡_, refl, sym, _∙_, ap, subst}
 use native.Mathlib.Omega.{arith}
 use lib.ListN.{length, take, length-map}
+use Rattle.limits.specs.Limits.{Limits}
 use Rattle.numbers.specs.BigEndian.{Bytes}
 use Rattle.format.specs.Cycles.{cycleFaults}
 use Rattle.format.specs.FileLayout.{rootsAt, fileAt}
-use Rattle.format.specs.Limits.{registerLimit, nodeLimit}
 use Rattle.format.specs.Lookup.{registerEntries, nodeEntries}
 use Rattle.format.specs.NodeLayout.{nodesAt}
 use Rattle.format.specs.Parsed.{Parsed, done, refused}
@@ -23,7 +23,7 @@ use Rattle.tables.proofs.TablesLaws.{written-take}
 use Rattle.tables.proofs.FaultsLaws.{judged-stop}
 use Rattle.index.specs.Rows.{Rows, filled, rowOf, registerRow, nodeRow}
 use Rattle.tables.specs.Keys.{registerKeys, nodeKeys}
-use Rattle.index.specs.Columns.{registerKinds, registerPlaces, nodeWanted, nodePlaces}
+use Rattle.index.specs.Columns.{registerKinds, nodeWanted, nodePlaces}
 use Rattle.index.proofs.Again.{same-done}
 use Rattle.index.proofs.FillingLaws.{filled-columns}
 use Rattle.reader.specs.Layout.{Summary, layoutAt}
@@ -47,40 +47,39 @@ module _ (c : Chip) (end : ℕ) {y : Parsed (Unit {0})} (names : y ≡ judgedAt 
       h ∙ ap (λ r. judgedAt (r ++ cycleFaults c) end) (sym (g .0))
 
 -- A file whose layout was read: its sections stand where the layout says, and there is room for its instances.
-pub record Laid (s : List ℕ) (l : Summary) (end : ℕ) (c : Chip) : Type 0 where
-  pub registers : registersAt s true (l .registersPlace) ≡ done (c .registers) (l .nodesPlace)
-  pub nodes : nodesAt s true (l .nodesPlace) ≡ done (c .nodes) (l .rootsPlace)
+pub record Laid (limits : Limits) (s : List ℕ) (l : Summary) (end : ℕ) (c : Chip) : Type 0 where
+  pub registers : registersAt (limits .registerInstances) s true (l .registersPlace) ≡ done (c .registers) (l .nodesPlace)
+  pub nodes : nodesAt (limits .nodeInstances) s true (l .nodesPlace) ≡ done (c .nodes) (l .rootsPlace)
   pub roots : rootsAt s true (l .rootsPlace) ≡ done (c .roots) end
   pub registerCount : l .registerInstances ≡ length (registerEntries c)
   pub nodeCount : l .nodeInstances ≡ length (nodeEntries c)
-  pub registerRoom : length (registerEntries c) ≤ 1024
-  pub nodeRoom : length (nodeEntries c) ≤ 256
+  pub registerRoom : length (registerEntries c) ≤ limits .registerInstances
+  pub nodeRoom : length (nodeEntries c) ≤ limits .nodeInstances
 
-module _ (s : List ℕ) (bytes : Bytes s) {l : Summary} {end : ℕ} where
-  laid-here : (z : Sections s 0 l end) → Laid s l end (z .chip)
-  unfolding registerEntries nodeEntries registerLimit nodeLimit
+module _ (limits : Limits) (s : List ℕ) (bytes : Bytes s) {l : Summary} {end : ℕ} where
+  laid-here : (z : Sections limits s 0 l end) → Laid limits s l end (z .chip)
+  unfolding registerEntries nodeEntries
   laid-here z =
-      let m = layout-meets s bytes (z .file) in
+      let m = layout-meets limits s bytes (z .file) in
       record {
         registers = z .registers;
         nodes = z .nodes;
         roots = z .roots;
         registerCount = ap (λ x. x .registerInstances) (z .summed) ∙ sym (register-count (z .chip .registers));
         nodeCount = ap (λ x. x .nodeInstances) (z .summed) ∙ sym (node-count (z .chip .nodes));
-        registerRoom = m .limits .registers;
-        nodeRoom = m .limits .nodes;
+        registerRoom = m .within .registers;
+        nodeRoom = m .within .nodes;
       }
 
-  pub laid : (c : Chip) → done l end ≡ layoutAt s 0 → fileAt s true 0 ≡ done c end → Laid s l end c
+  pub laid : (c : Chip) → done l end ≡ layoutAt limits s 0 → fileAt limits s true 0 ≡ done c end → Laid limits s l end c
   laid c layout file =
-      let z = sections s 0 (sym layout) in
-      subst (Laid s l end) (same-done (sym (z .file)) file .0) (laid-here z)
+      let z = sections limits s 0 (sym layout) in
+      subst (Laid limits s l end) (same-done (sym (z .file)) file .0) (laid-here z)
 
   -- The layout of a file has no more instances than the limits allow.
-  pub within-limits : done l end ≡ layoutAt s 0 → (l .registerInstances ≤ registerLimit) × (l .nodeInstances ≤ nodeLimit)
-  unfolding registerLimit nodeLimit
+  pub within-limits : done l end ≡ layoutAt limits s 0 → (l .registerInstances ≤ limits .registerInstances) × (l .nodeInstances ≤ limits .nodeInstances)
   within-limits layout =
-      let z = sections s 0 (sym layout) in
+      let z = sections limits s 0 (sym layout) in
       let d = laid-here z in
       (omega (arith, d .registerCount, d .registerRoom), omega (arith, d .nodeCount, d .nodeRoom))
 
@@ -104,10 +103,6 @@ module _ (c : Chip) (t : Rows) where
     pub register-kinds : m ≤ length (t .kinds) → take m kinds ≡ registerKinds c
     unfolding registerRow rowOf
     register-kinds h = column (registerEntries c) _ m (t .kinds) e h (ap (λ t. t .kinds) rows ∙ ap (written (t .kinds) 0) (map-map (λ r. r .kind) registerRow (registerEntries c)))
-
-    pub register-places : m ≤ length (t .places) → take m spots ≡ registerPlaces c
-    unfolding registerRow rowOf
-    register-places h = column (registerEntries c) _ m (t .places) e h (ap (λ t. t .places) rows ∙ ap (written (t .places) 0) (map-map (λ r. r .place) registerRow (registerEntries c)))
 
   pub node-tables : (n : ℕ) → n ≡ length (nodeEntries c) → n ≤ length (t .keys) → n ≤ length (t .kinds) → n ≤ length (t .places) → {nodes wanted places : List ℕ}
       → _≡_ {A = Rows} (record { keys = nodes; kinds = wanted; places = places }) (filled t 0 (map nodeRow (nodeEntries c)))

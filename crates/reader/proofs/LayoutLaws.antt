@@ -5,6 +5,7 @@ use mathlib.Core.Bool.{true}
 use mathlib.Core.List.{List}
 use native.Mathlib.Omega.{arith}
 use lib.ListN.{length}
+use Rattle.limits.specs.Limits.{Limits}
 use Rattle.format.specs.declared.Refusal.{Refusal}
 use Rattle.format.specs.Parsed.{Parsed, done, andThen, making}
 use Rattle.format.specs.Lookup.{registerEntries, nodeEntries}
@@ -65,53 +66,53 @@ summary-is m rs ns ts a b c end {e} {i} {f} {j} {t} p q r =
     rw (pe, pi, qe, qi, r)
 
 -- The layout is the file's tree, summarised: the same refusals, the same end, and the checker's values.
-pub layout-file : (s : List ℕ) (at : ℕ) → making layoutValues (layoutAt s at) ≡ making countsOf (fileAt s true at)
+pub layout-file : (limits : Limits) (s : List ℕ) (at : ℕ) → making layoutValues (layoutAt limits s at) ≡ making countsOf (fileAt limits s true at)
 unfolding layoutAt fileAt registerEntries nodeEntries
-layout-file s at = simp (making-after, making-making, register-count, node-count)
+layout-file limits s at = simp (making-after, making-making, register-count, node-count)
 
 -- A layout that was read: the file's tree, and its sections at the places that the layout names.
-pub record Sections (s : List ℕ) (at : ℕ) (l : Summary) (end : ℕ) : Type 0 where
+pub record Sections (limits : Limits) (s : List ℕ) (at : ℕ) (l : Summary) (end : ℕ) : Type 0 where
   pub chip : Chip
-  pub file : fileAt s true at ≡ done chip end
+  pub file : fileAt limits s true at ≡ done chip end
   pub start : startAt s at ≡ done (chip .model) (l .registersPlace)
-  pub registers : registersAt s true (l .registersPlace) ≡ done (chip .registers) (l .nodesPlace)
-  pub nodes : nodesAt s true (l .nodesPlace) ≡ done (chip .nodes) (l .rootsPlace)
+  pub registers : registersAt (limits .registerInstances) s true (l .registersPlace) ≡ done (chip .registers) (l .nodesPlace)
+  pub nodes : nodesAt (limits .nodeInstances) s true (l .nodesPlace) ≡ done (chip .nodes) (l .rootsPlace)
   pub roots : rootsAt s true (l .rootsPlace) ≡ done (chip .roots) end
   pub summed : l ≡ summary (chip .model) (chip .registers) (chip .nodes) (chip .roots) (l .registersPlace) (l .nodesPlace) (l .rootsPlace)
 
-read-is : (s : List ℕ) (at m : ℕ) (rs : List Register) (ns : List Node) (ts : List Root) (a b c : ℕ) {l : Summary} {end : ℕ}
-    → startAt s at ≡ done m a → registersAt s true a ≡ done rs b → nodesAt s true b ≡ done ns c → rootsAt s true c ≡ done ts end
-    → summary m rs ns ts a b c ≡ l → Sections s at l end
+read-is : (limits : Limits) (s : List ℕ) (at m : ℕ) (rs : List Register) (ns : List Node) (ts : List Root) (a b c : ℕ) {l : Summary} {end : ℕ}
+    → startAt s at ≡ done m a → registersAt (limits .registerInstances) s true a ≡ done rs b → nodesAt (limits .nodeInstances) s true b ≡ done ns c → rootsAt s true c ≡ done ts end
+    → summary m rs ns ts a b c ≡ l → Sections limits s at l end
 unfolding fileAt andThen making
-read-is s at m rs ns ts a b c {l} {end} p q r t e =
+read-is limits s at m rs ns ts a b c {l} {end} p q r t e =
     rw (← e)
     (record { chip = record { model = m; registers = rs; nodes = ns; roots = ts }; file = rw (p, q, r, t); start = p; registers = q; nodes = r; roots = t; summed = refl })
 
-pub sections : (s : List ℕ) (at : ℕ) {l : Summary} {end : ℕ} → layoutAt s at ≡ done l end → Sections s at l end
+pub sections : (limits : Limits) (s : List ℕ) (at : ℕ) {l : Summary} {end : ℕ} → layoutAt limits s at ≡ done l end → Sections limits s at l end
 unfolding layoutAt
-sections s at {l} {end} e =
+sections limits s at {l} {end} e =
     let d = followed (startAt s at) _ e in
-    let c = followed (registersAt s true (d .place)) _ (d .next) in
-    let b = followed (nodesAt s true (c .place)) _ (c .next) in
+    let c = followed (registersAt (limits .registerInstances) s true (d .place)) _ (d .next) in
+    let b = followed (nodesAt (limits .nodeInstances) s true (c .place)) _ (c .next) in
     let f : Found (λ ts. summary (d .value) (c .value) (b .value) ts (d .place) (c .place) (b .place)) (rootsAt s true (b .place)) l end = found _ _ (sym (b .next)) in
-    read-is s at (d .value) (c .value) (b .value) (f .value) (d .place) (c .place) (b .place) (d .is) (c .is) (b .is) (f .is) (f .made)
+    read-is limits s at (d .value) (c .value) (b .value) (f .value) (d .place) (c .place) (b .place) (d .is) (c .is) (b .is) (f .is) (f .made)
 
 -- Two answers that are one hold one layout, and a refusal is no layout.
 abbrev nodesPlaceOf : LayoutRead → ℕ
 nodesPlaceOf (LayoutRead.Done l) = l .«nodes_at»
 nodesPlaceOf (LayoutRead.Refused r) = 0
 
-pub same-nodes : (s : List ℕ) {l k : Layout} → LayoutRead.Done l ≡ LayoutRead.Done k → (ns : List Node) (m : ℕ) → nodesAt s true (k .«nodes_at») ≡ done ns m
-    → nodesAt s true (l .«nodes_at») ≡ done ns m
-same-nodes s e ns m d = ap (nodesAt s true) (ap nodesPlaceOf e) ∙ d
+pub same-nodes : (limit : ℕ) (s : List ℕ) {l k : Layout} → LayoutRead.Done l ≡ LayoutRead.Done k → (ns : List Node) (m : ℕ) → nodesAt limit s true (k .«nodes_at») ≡ done ns m
+    → nodesAt limit s true (l .«nodes_at») ≡ done ns m
+same-nodes limit s e ns m d = ap (nodesAt limit s true) (ap nodesPlaceOf e) ∙ d
 
 abbrev registersPlaceOf : LayoutRead → ℕ
 registersPlaceOf (LayoutRead.Done l) = l .«registers_at»
 registersPlaceOf (LayoutRead.Refused r) = 0
 
-pub same-registers : (s : List ℕ) {l k : Layout} → LayoutRead.Done l ≡ LayoutRead.Done k → (rs : List Register) (m : ℕ) → registersAt s true (k .«registers_at») ≡ done rs m
-    → registersAt s true (l .«registers_at») ≡ done rs m
-same-registers s e rs m d = ap (registersAt s true) (ap registersPlaceOf e) ∙ d
+pub same-registers : (limit : ℕ) (s : List ℕ) {l k : Layout} → LayoutRead.Done l ≡ LayoutRead.Done k → (rs : List Register) (m : ℕ) → registersAt limit s true (k .«registers_at») ≡ done rs m
+    → registersAt limit s true (l .«registers_at») ≡ done rs m
+same-registers limit s e rs m d = ap (registersAt limit s true) (ap registersPlaceOf e) ∙ d
 
 pub no-layout : {A : Type 0} {r : Refusal} {l : Layout} → LayoutRead.Refused r ≡ LayoutRead.Done l → A
 no-layout e = let z : _≡_ {A = ℕ} 0 1 = cc in absurd (omega arith)

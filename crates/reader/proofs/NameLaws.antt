@@ -5,9 +5,11 @@ use mathlib.Core.List.{List, [], _∷_, _++_, map}
 use mathlib.Core.Path.{_≡_, refl, sym, _∙_, ap, subst}
 use native.Mathlib.Omega.{arith}
 use lib.ListN.{length, length-map}
+use Rattle.limits.proofs.LimitsLaws.{registers-within, nodes-within}
+use Rattle.limits.specs.Limits.{Limits, libraryLimits, limitsOf}
+use Rattle.limits.specs.declared.LimitSet.{LimitSet}
 use Rattle.numbers.specs.BigEndian.{Bytes}
 use Rattle.format.specs.FileLayout.{rootsAt, fileAt}
-use Rattle.format.specs.Limits.{registerLimit, nodeLimit}
 use Rattle.format.specs.Lookup.{gathered, registerEntries, NodeEntry, nodeEntries}
 use Rattle.format.specs.Parsed.{Parsed, done, refused}
 use Rattle.format.specs.References.{Fault, instanceFaults, rootFaults, referenceFaults}
@@ -30,32 +32,30 @@ use Rattle.references.proofs.TablesLaws.{instances-same}
 use Rattle.references.proofs.RootsLaws.{roots-same}
 
 -- What a file that was read keeps to.
-pub layout-meets : (s : List ℕ) → Bytes s → {c : Chip} {end : ℕ} → fileAt s true 0 ≡ done c end → LayoutMeets c
-layout-meets s bytes {c} e = layout-out c (file-out s bytes e .1) .1
+pub layout-meets : (limits : Limits) (s : List ℕ) → Bytes s → {c : Chip} {end : ℕ} → fileAt limits s true 0 ≡ done c end → LayoutMeets limits c
+layout-meets limits s bytes {c} e = layout-out limits c (file-out limits s bytes e .1) .1
 
 -- So few names as a file has fit an index.
-names-few : {E : Type 0} (f : E → ℕ) (es : List E) (keys : List ℕ) → keys ≡ map f es → length es ≤ 1024 → length keys < 65536
+names-few : {E : Type 0} (f : E → ℕ) (es : List E) (keys : List ℕ) → keys ≡ map f es → length es ≤ libraryLimits .registerInstances → length keys < 65536
 names-few f es keys e h = let l : length keys ≡ length es = ap length e ∙ length-map es f in omega arith
 
-module _ (s : List ℕ) (bytes : Bytes s) {c : Chip} {end : ℕ} (file : fileAt s true 0 ≡ done c end) where
+module _ (of : LimitSet) (s : List ℕ) (bytes : Bytes s) {c : Chip} {end : ℕ} (file : fileAt (limitsOf of) s true 0 ≡ done c end) where
   pub few-registers : (keys : List ℕ) → keys ≡ registerKeys c → length keys < 65536
-  unfolding registerLimit
-  few-registers keys e = names-few _ (registerEntries c) keys e (layout-meets s bytes file .limits .registers)
+  few-registers keys e = names-few _ (registerEntries c) keys e (omega (arith, layout-meets (limitsOf of) s bytes file .within .registers, registers-within of))
 
   pub few-nodes : (keys : List ℕ) → keys ≡ nodeKeys c → length keys < 65536
-  unfolding nodeLimit
-  few-nodes keys e = names-few _ (nodeEntries c) keys e (let h : length (nodeEntries c) ≤ 256 = layout-meets s bytes file .limits .nodes in omega arith)
+  few-nodes keys e = names-few _ (nodeEntries c) keys e (omega (arith, layout-meets (limitsOf of) s bytes file .within .nodes, nodes-within of))
 
 -- Its node instances are read again at their places.
-pub entries-again : (s : List ℕ) {c : Chip} {end : ℕ} → fileAt s true 0 ≡ done c end → Every (ReadAgain s) (nodeEntries c)
+pub entries-again : (limits : Limits) (s : List ℕ) {c : Chip} {end : ℕ} → fileAt limits s true 0 ≡ done c end → Every (ReadAgain s) (nodeEntries c)
 unfolding fileAt nodeEntries
-entries-again s {c} e =
+entries-again limits s {c} e =
     let t = then-out _ _ e in
     let u = then-out _ _ (t .3) in
     let v = then-out _ _ (u .3) in
     let g = making-out _ _ (v .3) in
     let n : v .0 ≡ c .nodes = ap (λ x. x .nodes) (g .2) in
-    nodes-again s (u .1) (v .2 ∙ ap (λ x. done x (v .1)) n)
+    nodes-again (limits .nodeInstances) s (u .1) (v .2 ∙ ap (λ x. done x (v .1)) n)
 
 -- The table of children by the names of the chip's node instances.
 pub children-of : (c : Chip) (nodes table : List ℕ) → nodes ≡ nodeKeys c → {t : List ℕ} → t ≡ written table 0 (gathered (λ e. childRow nodes (e .instance)) (nodeEntries c))
@@ -66,21 +66,21 @@ pub empty-left : (xs ys : List Fault) → xs ++ ys ≡ [] → xs ≡ []
 empty-left [] ys e = refl
 empty-left (x ∷ xs) ys e = let z : _≡_ {A = ℕ} 0 1 = cc in absurd (omega arith)
 
-module _ (s : List ℕ) (bytes : Bytes s) (keys kinds nodes wanted places : List ℕ) (c : Chip) (end : ℕ) (file : fileAt s true 0 ≡ done c end)
+module _ (limits : Limits) (s : List ℕ) (bytes : Bytes s) (keys kinds nodes wanted places : List ℕ) (c : Chip) (end : ℕ) (file : fileAt limits s true 0 ≡ done c end)
     (tables : TablesOf c keys kinds nodes wanted places) where
   instances-are : gathered (entryFaultsIn keys kinds nodes) (nodeEntries c) ≡ gathered (instanceFaults c) (nodeEntries c)
   unfolding entryFaultsIn
   instances-are =
-      let m = layout-meets s bytes file in
+      let m = layout-meets limits s bytes file in
       rw (tables .keys-are, tables .kinds-are, tables .nodes-are) (gathered-same _ _ (nodeEntries c) (instances-same c (m .fields) (m .unique)))
 
   roots-are : gathered (rootFaultsIn nodes (nodeEntries c)) (c .roots) ≡ gathered (rootFaults c) (c .roots)
-  roots-are = let m = layout-meets s bytes file in rw (tables .nodes-are) (roots-same c (m .fields) (m .unique))
+  roots-are = let m = layout-meets limits s bytes file in rw (tables .nodes-are) (roots-same c (m .fields) (m .unique))
 
   module _ {y : Parsed (Unit {0})}
       (f : (es : List NodeEntry) → Every (ReadAgain s) es → places ≡ map entryPlace es → wanted ≡ map entryWanted es → y ≡ judgedAt (gathered (entryFaultsIn keys kinds nodes) es) 0) where
     nodes-judged : y ≡ judgedAt (gathered (instanceFaults c) (nodeEntries c)) 0
-    nodes-judged = f (nodeEntries c) (entries-again s file) (tables .places-are) (tables .wanted-are) ∙ ap (λ z. judgedAt z 0) instances-are
+    nodes-judged = f (nodeEntries c) (entries-again limits s file) (tables .places-are) (tables .wanted-are) ∙ ap (λ z. judgedAt z 0) instances-are
 
     -- A node instance's fault decides.
     pub names-refused : {n p : ℕ} → y ≡ refused n p → refused n p ≡ judgedAt (referenceFaults c) end
@@ -94,4 +94,4 @@ module _ (s : List ℕ) (bytes : Bytes s) (keys kinds nodes wanted places : List
     unfolding referenceFaults
     names-roots e {z} at g r =
         let j = judged-on (gathered (instanceFaults c) (nodeEntries c)) (gathered (rootFaults c) (c .roots)) end (sym nodes-judged ∙ e) in
-        g (nodeEntries c) (entries-again s file) (tables .places-are) (c .roots) end r ∙ ap (λ x. judgedAt x end) roots-are ∙ sym (j .1)
+        g (nodeEntries c) (entries-again limits s file) (tables .places-are) (c .roots) end r ∙ ap (λ x. judgedAt x end) roots-are ∙ sym (j .1)

@@ -16,7 +16,7 @@ expressionPlace (r ∷ rs) = r .place
 abbrev pub placeColumn : Chip → List ℕ
 placeColumn c = map (λ e. e .instance .place) (nodeEntries c)
 
--- A position, or 65,535 for none: a file has at most 256 node instances.
+-- A position, or 65,535 for none: no position of a node instance is as large.
 unfoldable pub positionOr : Option ℕ → ℕ
 positionOr none = 0xFFFF
 positionOr (some k) = k

@@ -5,6 +5,8 @@ use mathlib.Core.List.{List, _++_}
 use mathlib.Core.Path.{_≡_}
 use lib.Dec.{leb}
 use lib.ListN.{length, take}
+use Rattle.limits.specs.declared.LimitSet.{LimitSet}
+use Rattle.limits.specs.Limits.{Limits, limitsOf}
 use Rattle.format.specs.FileLayout.{rootsAt}
 use Rattle.format.specs.Lookup.{registerEntries, nodeEntries}
 use Rattle.format.specs.Parsed.{Parsed, done, refused}
@@ -39,15 +41,15 @@ roomForLayout t (done l end) = roomOf t (l .registerInstances) (l .nodeInstances
 roomForLayout t (refused n p) = true
 
 -- The tables have room for a file.
-unfoldable pub roomFor : Lengths → List ℕ → Bool
-roomFor t s = roomForLayout t (wholeAt s)
+unfoldable pub roomFor : Limits → Lengths → List ℕ → Bool
+roomFor limits t s = roomForLayout t (wholeAt limits s)
 
 -- The tables of an accepted file: the names of its register instances, with an index over them; the names and places of its node instances; and the children of these. What stands in the tables behind these places is free.
-pub record Examined (s : List ℕ) (l : Layout) (keys index names places child : List ℕ) : Type 0 where
+pub record Examined (of : LimitSet) (s : List ℕ) (l : Layout) (keys index names places child : List ℕ) : Type 0 where
   pub chip : Chip
   pub end : ℕ
-  pub accepted : verdict s ≡ done chip end
-  pub whole : done (laidOut l) (l .end) ≡ wholeAt s
+  pub accepted : verdict (limitsOf of) s ≡ done chip end
+  pub whole : done (laidOut l) (l .end) ≡ wholeAt (limitsOf of) s
   pub registers : l .«register_instances» ≡ length (registerEntries chip)
   pub nodes : l .«node_instances» ≡ length (nodeEntries chip)
   pub roots : rootsAt s true (l .«roots_at») ≡ done (chip .roots) end

@@ -6,11 +6,14 @@ use crate::file::whole;
 use fields::NextRead;
 use format::Kind;
 use format::Refusal;
+use limits::LimitSet;
 ghost use Prim.Native.Nat.{ℕ, _*_, _≤_};
 ghost use mathlib.Core.Bool.{true, cond};
 ghost use mathlib.Core.List.{_++_};
 ghost use mathlib.Core.Path.{_≡_};
 ghost use lib.ListN.{length, take};
+ghost use Rattle.limits.specs.declared.LimitSet.{LimitSet};
+ghost use Rattle.limits.specs.Limits.{limitsOf};
 ghost use Rattle.format.specs.Cycles.{cycleFaults};
 ghost use Rattle.format.specs.FileLayout.{rootsAt, fileAt};
 ghost use Rattle.format.specs.Lookup.{gathered, nodeEntries};
@@ -79,15 +82,15 @@ fn judge(
     child: &mut [u16],
 ) -> NextRead
     requires { ⌜ (l .«register_instances» ≤ length (now keys)) × (l .«register_instances» ≤ length (now kinds)) × (l .«node_instances» ≤ length (now names)) × (l .«node_instances» ≤ length (now wanted)) × (l .«node_instances» ≤ length (now places)) ⌝ }
-    ensures { λ r. ⌜ ((c : Chip)
-        → fileAt (now (s .entry)) true 0 ≡ done c (l .end)
+    ensures { λ r. ⌜ ((of : LimitSet) (c : Chip)
+        → fileAt (limitsOf of) (now (s .entry)) true 0 ≡ done c (l .end)
         → rootsAt (now (s .entry)) true (l .«roots_at») ≡ done (c .roots) (l .end)
         → TablesOf c (take (l .«register_instances») (now (keys .entry))) (take (l .«register_instances») (now (kinds .entry))) (take (l .«node_instances») (now (names .entry))) (take (l .«node_instances») (now (wanted .entry))) (take (l .«node_instances») (now (places .entry)))
         → length (nodeEntries c) * 64 ≤ length (now (child .entry))
         → nextParsed r ≡ judgedAt (referenceFaults c ++ cycleFaults c) (l .end)) ⌝ }
-    ensures { λ r. ⌜ ((c : Chip) (next : ℕ)
+    ensures { λ r. ⌜ ((of : LimitSet) (c : Chip) (next : ℕ)
         → r ≡ NextRead.Next next
-        → fileAt (now (s .entry)) true 0 ≡ done c (l .end)
+        → fileAt (limitsOf of) (now (s .entry)) true 0 ≡ done c (l .end)
         → TablesOf c (take (l .«register_instances») (now (keys .entry))) (take (l .«register_instances») (now (kinds .entry))) (take (l .«node_instances») (now (names .entry))) (take (l .«node_instances») (now (wanted .entry))) (take (l .«node_instances») (now (places .entry)))
         → IndexOf (now (index .exit)) (take (l .«register_instances») (now (keys .entry)))
         × (now (child .exit) ≡ written (now (child .entry)) 0 (gathered (λ e. childRow (nodeKeys c) (e .instance)) (nodeEntries c)))) ⌝ }
@@ -112,6 +115,7 @@ fn judge(
 // leaves in the tables is free.
 pub fn examine_in(
     s: &[u8],
+    of: LimitSet,
     keys: &mut [u64],
     kinds: &mut [u64],
     index: &mut [u16],
@@ -122,13 +126,13 @@ pub fn examine_in(
     child: &mut [u16],
 ) -> LayoutRead
     ensures { λ r. ⌜ making layoutValues (layoutParsed r)
-        ≡ cond (roomFor (lengthsOf (now (keys .entry)) (now (kinds .entry)) (now (names .entry)) (now (wanted .entry)) (now (places .entry)) (now (child .entry))) (now (s .entry)))
-        (making countsOf (verdict (now (s .entry)))) (refused 43 0) ⌝ }
+        ≡ cond (roomFor (limitsOf of) (lengthsOf (now (keys .entry)) (now (kinds .entry)) (now (names .entry)) (now (wanted .entry)) (now (places .entry)) (now (child .entry))) (now (s .entry)))
+        (making countsOf (verdict (limitsOf of) (now (s .entry)))) (refused 43 0) ⌝ }
     ensures { λ r. ⌜ ((l : Layout)
         → r ≡ LayoutRead.Done l
-        → Examined (now (s .entry)) l (now (keys .exit)) (now (index .exit)) (now (names .exit)) (now (places .exit)) (now (child .exit))) ⌝ }
+        → Examined of (now (s .entry)) l (now (keys .exit)) (now (index .exit)) (now (names .exit)) (now (places .exit)) (now (child .exit))) ⌝ }
 {
-    let w = whole(s, keys, kinds, names, wanted, places);
+    let w = whole(s, of, keys, kinds, names, wanted, places);
     match w {
         LayoutRead::Done(l) => {
             if has_room(

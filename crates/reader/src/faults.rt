@@ -12,6 +12,8 @@ ghost use mathlib.Core.List.{List, [], _++_};
 ghost use mathlib.Core.Path.{_≡_};
 ghost use lib.ListN.{length};
 ghost use Rattle.numbers.specs.BigEndian.{Bytes};
+ghost use Rattle.limits.specs.declared.LimitSet.{LimitSet};
+ghost use Rattle.limits.specs.Limits.{limitsOf};
 ghost use Rattle.format.specs.Cycles.{cycleFaults};
 ghost use Rattle.format.specs.FileLayout.{rootsAt, fileAt};
 ghost use Rattle.format.specs.Lookup.{gathered, nodeEntries};
@@ -40,16 +42,16 @@ fn name_faults(
     places: &[u64],
     child: &mut [u16],
 ) -> NextRead
-    ensures { λ r. ⌜ ((c : Chip) (end : ℕ)
-        → fileAt (now (s .entry)) true 0 ≡ done c end
+    ensures { λ r. ⌜ ((of : LimitSet) (c : Chip) (end : ℕ)
+        → fileAt (limitsOf of) (now (s .entry)) true 0 ≡ done c end
         → rootsAt (now (s .entry)) true «roots_at» ≡ done (c .roots) end
         → TablesOf c (now (keys .entry)) (now (kinds .entry)) (now (nodes .entry)) (now (wanted .entry)) (now (places .entry))
         → IndexOf (now (index .entry)) (now (keys .entry))
         → IndexOf (now («node_index» .entry)) (now (nodes .entry))
         → nextParsed r ≡ judgedAt (referenceFaults c) end) ⌝ }
-    ensures { λ r. ⌜ ((c : Chip) (end next : ℕ)
+    ensures { λ r. ⌜ ((of : LimitSet) (c : Chip) (end next : ℕ)
         → r ≡ NextRead.Next next
-        → fileAt (now (s .entry)) true 0 ≡ done c end
+        → fileAt (limitsOf of) (now (s .entry)) true 0 ≡ done c end
         → TablesOf c (now (keys .entry)) (now (kinds .entry)) (now (nodes .entry)) (now (wanted .entry)) (now (places .entry))
         → IndexOf (now (index .entry)) (now (keys .entry))
         → IndexOf (now («node_index» .entry)) (now (nodes .entry))
@@ -74,9 +76,9 @@ fn name_faults(
 
 // 14 where the child entries make a cycle, by the table of children; otherwise the place that is given.
 fn cycle_fault(child: &[u16], places: &[u64], next: usize) -> NextRead
-    ensures { λ r. ⌜ ((s : List ℕ) (c : Chip) (end : ℕ) (table : List ℕ)
+    ensures { λ r. ⌜ ((of : LimitSet) (s : List ℕ) (c : Chip) (end : ℕ) (table : List ℕ)
         → Bytes s
-        → fileAt s true 0 ≡ done c end
+        → fileAt (limitsOf of) s true 0 ≡ done c end
         → referenceFaults c ≡ []
         → now (places .entry) ≡ nodePlaces c
         → length (nodeEntries c) * 64 ≤ length table
@@ -108,15 +110,15 @@ pub fn table_faults(
     node_index: &mut [u16],
     child: &mut [u16],
 ) -> NextRead
-    ensures { λ r. ⌜ ((c : Chip) (end : ℕ)
-        → fileAt (now (s .entry)) true 0 ≡ done c end
+    ensures { λ r. ⌜ ((of : LimitSet) (c : Chip) (end : ℕ)
+        → fileAt (limitsOf of) (now (s .entry)) true 0 ≡ done c end
         → rootsAt (now (s .entry)) true «roots_at» ≡ done (c .roots) end
         → TablesOf c (now (keys .entry)) (now (kinds .entry)) (now (nodes .entry)) (now (wanted .entry)) (now (places .entry))
         → length (nodeEntries c) * 64 ≤ length (now (child .entry))
         → nextParsed r ≡ judgedAt (referenceFaults c ++ cycleFaults c) end) ⌝ }
-    ensures { λ r. ⌜ ((c : Chip) (end next : ℕ)
+    ensures { λ r. ⌜ ((of : LimitSet) (c : Chip) (end next : ℕ)
         → r ≡ NextRead.Next next
-        → fileAt (now (s .entry)) true 0 ≡ done c end
+        → fileAt (limitsOf of) (now (s .entry)) true 0 ≡ done c end
         → TablesOf c (now (keys .entry)) (now (kinds .entry)) (now (nodes .entry)) (now (wanted .entry)) (now (places .entry))
         → IndexOf (now (index .exit)) (now (keys .entry))
         × (now (child .exit) ≡ written (now (child .entry)) 0 (gathered (λ e. childRow (nodeKeys c) (e .instance)) (nodeEntries c)))) ⌝ }

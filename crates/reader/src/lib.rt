@@ -4,6 +4,7 @@ use format::Checked;
 use format::Refusal;
 use format::Summary;
 ghost use mathlib.Core.Path.{_≡_};
+ghost use Rattle.limits.specs.Limits.{libraryLimits};
 ghost use Rattle.format.specs.declared.Checked.{Checked};
 ghost use Rattle.format.specs.Refusals.{checkedValues};
 ghost use Rattle.format.specs.Verdict.{check};
@@ -53,7 +54,7 @@ fn summary(l: Layout) -> Summary
 
 // The checker: what an accepted file holds, or the refusal that the rules name first. With tables that have room for the file, and IDs and instance numbers that rise, it reads the registers section once, the nodes section twice, for its layout with its rows and for its names and children, and the rules of each root's node instance once more.
 pub fn check(file: &[u8]) -> Checked
-    ensures { λ r. ⌜ checkedValues r ≡ check (now (file .entry)) ⌝ }
+    ensures { λ r. ⌜ checkedValues r ≡ check libraryLimits (now (file .entry)) ⌝ }
 {
     let e = examine(file);
     match e {

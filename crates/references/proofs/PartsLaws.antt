@@ -7,7 +7,7 @@ use lib.ListN.{length, set}
 use borrow.Author.Tests.{lt-ltb, le-ltb}
 use Rattle.format.specs.Fields.{fieldAt}
 use Rattle.format.specs.ExpressionLayout.{exprAt}
-use Rattle.format.specs.Limits.{levels}
+use Rattle.limits.specs.Limits.{libraryLimits, levels}
 use Rattle.format.specs.Lookup.{gathered}
 use Rattle.format.specs.NodeLayout.{InstanceHead, captureAt, ruleAt, childAt, instanceHeadAt, nodeInstanceAt}
 use Rattle.format.specs.Parsed.{Parsed, done, refused, rowAt}
@@ -105,8 +105,8 @@ module _ (s : List ℕ) (at : ℕ) where
   child-bit p before k m e = not-refused p (child-fields s at before e .0 .first-is)
 
   -- A node instance whose head the code read.
-  module _ (keys kinds nodes : List ℕ) (kind : ℕ) {h : InstanceHead} {a : ℕ} (p : done h a ≡ instanceHeadAt s true 0 [] at)
-      (total : ℕ) (before : List NodeInstance) (i : NodeInstance) (m : ℕ) (e : nodeInstanceAt s true total before at ≡ done i m) where
+  module _ (keys kinds nodes : List ℕ) (kind : ℕ) {h : InstanceHead} {a : ℕ} (p : done h a ≡ instanceHeadAt (libraryLimits .nodeInstances) s true 0 [] at)
+      (limit total : ℕ) (before : List NodeInstance) (i : NodeInstance) (m : ℕ) (e : nodeInstanceAt limit s true total before at ≡ done i m) where
     module _ {y : Parsed (Unit {0})}
         (c : (ks : List Capture) (m : ℕ) → rowAt (captureAt s) (h .captures) [] a ≡ done ks m → y ≡ judgedAt (gathered (captureFaultsIn keys kinds) ks) m) where
       -- The captures decide, or have no fault.
@@ -117,7 +117,7 @@ module _ (s : List ℕ) (at : ℕ) where
 
       pub instance-captures-no : {n w : ℕ} → y ≡ refused n w → refused n w ≡ judgedAt (instanceFaultsIn keys kinds nodes kind i) m
       unfolding instanceFaultsIn
-      instance-captures-no r = let q = instance-parts s at total before e in sym (judged-stop _ _ _ _ (sym (captures-judged q) ∙ r))
+      instance-captures-no r = let q = instance-parts s at limit total before e in sym (judged-stop _ _ _ _ (sym (captures-judged q) ∙ r))
 
       module _ {u : Unit {0}} {b : ℕ} (r : y ≡ done u b) {z : Parsed (Unit {0})}
           (d : (ks : List Rule) (m : ℕ) → rowAt (ruleAt s true) (h .rules) [] b ≡ done ks m → z ≡ judgedAt (gathered (ruleFaultsIn keys kinds kind) ks) m) where
@@ -132,7 +132,7 @@ module _ (s : List ℕ) (at : ℕ) where
 
         pub instance-rules-no : {n w : ℕ} → z ≡ refused n w → refused n w ≡ judgedAt (instanceFaultsIn keys kinds nodes kind i) m
         instance-rules-no t =
-            let q = instance-parts s at total before e in
+            let q = instance-parts s at limit total before e in
             let j = rules-judged q in
             sym (j .1 ∙ judged-stop _ _ _ _ (sym (j .0) ∙ t))
 
@@ -141,7 +141,7 @@ module _ (s : List ℕ) (at : ℕ) where
           children-judged : (rowAt (childAt s true) (h .children) [] f ≡ done (i .children) m)
               × (judgedAt (instanceFaultsIn keys kinds nodes kind i) m ≡ judgedAt (gathered (childFaultsIn nodes) (i .children)) m)
           children-judged =
-              let q = instance-parts s at total before e in
+              let q = instance-parts s at limit total before e in
               let g = same-done p (q .read) in
               let j = rules-judged q in
               let o = judged-on (gathered (ruleFaultsIn keys kinds kind) (i .rules)) (gathered (childFaultsIn nodes) (i .children)) m (sym (j .0) ∙ t) in
@@ -158,6 +158,6 @@ module _ (s : List ℕ) (at : ℕ) where
               → put ≡ written table k (childRow nodes i)
           instance-row table k l w = let j = children-judged in row-put nodes table k i (children-small s (h .children) [] f (j .0)) l (w (i .children) m (j .0))
 
-  pub instance-there : {B : Type 0} {w z : ℕ} → refused w z ≡ instanceHeadAt s true 0 [] at
-      → (total : ℕ) (before : List NodeInstance) (i : NodeInstance) (m : ℕ) → nodeInstanceAt s true total before at ≡ done i m → B
-  instance-there p total before i m e = not-refused p (instance-parts s at total before e .read)
+  pub instance-there : {B : Type 0} {w z : ℕ} → refused w z ≡ instanceHeadAt (libraryLimits .nodeInstances) s true 0 [] at
+      → (limit total : ℕ) (before : List NodeInstance) (i : NodeInstance) (m : ℕ) → nodeInstanceAt limit s true total before at ≡ done i m → B
+  instance-there p limit total before i m e = not-refused p (instance-parts s at limit total before e .read)

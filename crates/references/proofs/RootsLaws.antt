@@ -8,6 +8,7 @@ use native.Mathlib.Omega.{arith}
 use lib.Dec.{eqb, ltb}
 use lib.ListN.{length, getD, length-map}
 use borrow.Author.Tests.{eq-eqb, ne-eqb, ltb-false}
+use Rattle.limits.specs.Limits.{libraryLimits}
 use Rattle.numbers.proofs.Bools.{either, clash, and-left, and-right, and-both, same-truth}
 use Rattle.format.specs.Fields.{fieldAt, attentionAt}
 use Rattle.format.specs.FileLayout.{rootAt}
@@ -44,7 +45,7 @@ module _ (nodes places : List ℕ) (attention id number : ℕ) {k : ℕ} (found 
       rw (← found, some-none (λ (e : NodeEntry). hasRule attention (e .instance)) (at-none k es l))
 
   module _ (s : List ℕ) (again : Every (ReadAgain s) es) (c : places ≡ map entryPlace es) (h : k < length places) {r : ℕ}
-      (rule : (total : ℕ) (before : List NodeInstance) (i : NodeInstance) (m : ℕ) → nodeInstanceAt s true total before (getD places k 0) ≡ done i m → r ≡ rulePlace attention (i .rules)) where
+      (rule : (limit total : ℕ) (before : List NodeInstance) (i : NodeInstance) (m : ℕ) → nodeInstanceAt limit s true total before (getD places k 0) ≡ done i m → r ≡ rulePlace attention (i .rules)) where
     root-rule : ruled nodes es attention id number ≡ not (eqb r 0)
     unfolding ruled hasRule
     root-rule =
@@ -53,9 +54,9 @@ module _ (nodes places : List ℕ) (attention id number : ℕ) {k : ℕ} (found 
         let e = a .0 in
         let g = every-at (ReadAgain s) k es again (a .1) in
         let p : getD places k 0 ≡ entryPlace e = ap (λ z. getD z k 0) c ∙ column-at entryPlace es k (a .1) in
-        let n : nodeInstanceAt s true 0 [] (getD places k 0) ≡ done (e .instance) (g .next) = rw p (g .read) in
-        let w : r ≡ rulePlace attention (e .instance .rules) = rule 0 [] (e .instance) (g .next) n in
-        rw (← found, a .1) (some-one (λ e. hasRule attention (e .instance)) e ∙ sym (instance-rule-some s attention (entryPlace e) 0 [] (g .read)) ∙ rw (← w))
+        let n : nodeInstanceAt (libraryLimits .nodeInstances) s true 0 [] (getD places k 0) ≡ done (e .instance) (g .next) = rw p (g .read) in
+        let w : r ≡ rulePlace attention (e .instance .rules) = rule (libraryLimits .nodeInstances) 0 [] (e .instance) (g .next) n in
+        rw (← found, a .1) (some-one (λ e. hasRule attention (e .instance)) e ∙ sym (instance-rule-some s attention (entryPlace e) _ 0 [] (g .read)) ∙ rw (← w))
 
     pub root-ruled : (p next : ℕ) → (r ≡ 0 → ⊥) → done tt next ≡ judgedAt (unless (ruled nodes es attention id number) 12 p) next
     unfolding unless judgedAt

@@ -5,6 +5,7 @@ use mathlib.Core.List.{List, [], _∷_, _++_, map}
 use mathlib.Core.Path.{_≡_, refl, sym, _∙_, ap, subst}
 use native.Mathlib.Omega.{arith}
 use lib.ListN.{length, getD, drop}
+use Rattle.limits.specs.Limits.{libraryLimits}
 use Rattle.format.specs.Lookup.{gathered, NodeEntry}
 use Rattle.format.specs.NodeLayout.{nodeInstanceAt}
 use Rattle.format.specs.Parsed.{Parsed, done, refused}
@@ -34,7 +35,7 @@ module _ (s places wanted keys kinds nodes : List ℕ) where
   -- What the code learns of the instance at a position.
   abbrev Judges : ℕ → ℕ → Parsed (Unit {0}) → Type 0
   Judges i k y =
-      (total : ℕ) (before : List NodeInstance) (a : NodeInstance) (m : ℕ) → nodeInstanceAt s true total before (getD places i 0) ≡ done a m
+      (limit total : ℕ) (before : List NodeInstance) (a : NodeInstance) (m : ℕ) → nodeInstanceAt limit s true total before (getD places i 0) ≡ done a m
       → y ≡ judgedAt (instanceFaultsIn keys kinds nodes k a) m
 
   pub scan-begin : Scan 0
@@ -55,8 +56,8 @@ module _ (s places wanted keys kinds nodes : List ℕ) where
         let a : Every (ReadAgain s) (e ∷ zs) = subst (Every (ReadAgain s)) (sym (d .2)) (r .1) in
         let v : drop i wanted ≡ map entryWanted (e ∷ zs) = subst (λ z. drop i wanted ≡ map entryWanted z) (sym (d .2)) (r .3) in
         let g = drop-first wanted i v in
-        let b : nodeInstanceAt s true 0 [] (getD places i 0) ≡ done (e .instance) (a .0 .next) = rw (d .3) (a .0 .read) in
-        (e, zs, a .0 .next, a .1, d .4, g .1, judges 0 [] (e .instance) (a .0 .next) b ∙ rw (kind, g .0), r .4 ∙ ap (λ z. judgedAt (gathered (entryFaultsIn keys kinds nodes) z) 0) (sym (d .2)))
+        let b : nodeInstanceAt (libraryLimits .nodeInstances) s true 0 [] (getD places i 0) ≡ done (e .instance) (a .0 .next) = rw (d .3) (a .0 .read) in
+        (e, zs, a .0 .next, a .1, d .4, g .1, judges (libraryLimits .nodeInstances) 0 [] (e .instance) (a .0 .next) b ∙ rw (kind, g .0), r .4 ∙ ap (λ z. judgedAt (gathered (entryFaultsIn keys kinds nodes) z) 0) (sym (d .2)))
 
     pub scan-refused : {n q : ℕ} → y ≡ refused n q → refused n q ≡ judgedAt (gathered (entryFaultsIn keys kinds nodes) es) 0
     scan-refused t = let r = first-judged in sym (r .7 ∙ judged-stop _ _ _ _ (sym (r .6) ∙ t))
@@ -89,9 +90,9 @@ module _ (s places nodes : List ℕ) where
 
   -- The children of the instance at i were written.
   module _ {t₀ t : List ℕ} {k i : ℕ} (f : Rows t₀ t k i) (h : i < length places) {u : List ℕ}
-      (put : (total : ℕ) (before : List NodeInstance) (a : NodeInstance) (m : ℕ) → nodeInstanceAt s true total before (getD places i 0) ≡ done a m → u ≡ written t k (childRow nodes a)) where
+      (put : (limit total : ℕ) (before : List NodeInstance) (a : NodeInstance) (m : ℕ) → nodeInstanceAt limit s true total before (getD places i 0) ≡ done a m → u ≡ written t k (childRow nodes a)) where
     pub rows-next : Rows t₀ u (k + 64) (i + 1)
-    rows-next = writing-next _ _ _ _ f h (λ e a q. row-written nodes t k (e .instance) (put 0 [] (e .instance) (a .next) (rw q (a .read))))
+    rows-next = writing-next _ _ _ _ f h (λ e a q. row-written nodes t k (e .instance) (put (libraryLimits .nodeInstances) 0 [] (e .instance) (a .next) (rw q (a .read))))
 
     -- A table that is full is so from the same place on.
     pub rows-full : length u ≤ k → Rows t₀ u k (i + 1)

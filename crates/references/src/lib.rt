@@ -100,7 +100,7 @@ fn rule_fault(
 {
     let b = byte_at(s, at);
     match b {
-        ByteRead::Byte(_, a) => naming::faults_at(s, a, format::LEVELS, kind, index, keys, kinds),
+        ByteRead::Byte(_, a) => naming::faults_at(s, a, limits::LEVELS, kind, index, keys, kinds),
         ByteRead::Refused(r) => NextRead::Refused(r),
     }
 }
@@ -260,17 +260,17 @@ fn instance_faults(
     child: &mut [u16],
     k: usize,
 ) -> NextRead
-    ensures { λ r. ⌜ (IndexOf (now (index .entry)) (now (keys .entry)) → IndexOf (now («node_index» .entry)) (now (nodes .entry)) → (total : ℕ) (before : List NodeInstance) (i : NodeInstance) (m : ℕ)
-        → nodeInstanceAt (now (s .entry)) true total before at ≡ done i m
+    ensures { λ r. ⌜ (IndexOf (now (index .entry)) (now (keys .entry)) → IndexOf (now («node_index» .entry)) (now (nodes .entry)) → (limit total : ℕ) (before : List NodeInstance) (i : NodeInstance) (m : ℕ)
+        → nodeInstanceAt limit (now (s .entry)) true total before at ≡ done i m
         → nextParsed r ≡ judgedAt (instanceFaultsIn (now (keys .entry)) (now (kinds .entry)) (now (nodes .entry)) kind i) m) ⌝ }
     ensures { λ r. ⌜ ((after : ℕ)
         → r ≡ NextRead.Next after
-        → IndexOf (now (index .entry)) (now (keys .entry)) → IndexOf (now («node_index» .entry)) (now (nodes .entry)) → (total : ℕ) (before : List NodeInstance) (i : NodeInstance) (m : ℕ)
-        → nodeInstanceAt (now (s .entry)) true total before at ≡ done i m
+        → IndexOf (now (index .entry)) (now (keys .entry)) → IndexOf (now («node_index» .entry)) (now (nodes .entry)) → (limit total : ℕ) (before : List NodeInstance) (i : NodeInstance) (m : ℕ)
+        → nodeInstanceAt limit (now (s .entry)) true total before at ≡ done i m
         → now (child .exit) ≡ written (now (child .entry)) k (childRow (now (nodes .entry)) i)) ⌝ }
 {
     let none = [0u8; 1];
-    let top = instance_head_at(s, at, 0, &none);
+    let top = instance_head_at(s, at, 0, limits::NODE_INSTANCES, &none);
     match top {
         InstanceHeadRead::Head(h, a) => {
             let rules = h.rules;

@@ -1,3 +1,4 @@
 -- The laws of the registers section.
+pub mod ListedLaws
 pub mod RisingLaws
 pub mod SectionLaws

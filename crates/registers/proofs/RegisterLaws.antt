@@ -7,7 +7,6 @@ use native.Mathlib.Omega.{arith}
 use borrow.Author.Tests.{ltb-true, eq-eqb, ne-eqb}
 use lib.ListN.{length}
 use lib.Dec.{ltb}
-use Rattle.format.specs.Limits.{registerLimit}
 use Rattle.format.specs.declared.Refusal.{Refusal}
 use Rattle.format.specs.Parsed.{Parsed, done, andThen, making, requiring, rowAt}
 use Rattle.format.specs.Fields.{fieldAt, countAt, typeAt, flagsAt, addressSize, fresh}
@@ -32,37 +31,31 @@ module _ (s : List ℕ) (at t : ℕ) {y : Parsed ℕ} where
   unfolding addressSize
   address-eight e k = rw (ne-eqb t 1 e) k
 
--- The limit of the code is the limit of the layout.
-pub register-limit : 1024 ≡ registerLimit
-unfolding registerLimit
-register-limit = refl
-
 -- A register instance after those that the marks tell of.
-pub instance-told : (g : RegisterInstance → ℕ) (s : List ℕ) (total type : ℕ) (before : List RegisterInstance) (at : ℕ) (table : List ℕ) {begun : ℕ} {y : Parsed ℕ}
+pub instance-told : (limit : ℕ) (g : RegisterInstance → ℕ) (s : List ℕ) (total type : ℕ) (before : List RegisterInstance) (at : ℕ) (table : List ℕ) {begun : ℕ} {y : Parsed ℕ}
     → Tells (unmarked table) (map registerNumber before) → begun ≡ total + length before
-    → y ≡ making g (andThen (instanceNumberAt s (unmarked table) begun 1024 at) λ n a. making (λ x. record { number = n; place = a; address = x }) (fieldAt s a (addressSize type)))
-    → y ≡ making g (registerInstanceAt s true total type before at)
+    → y ≡ making g (andThen (instanceNumberAt s (unmarked table) begun limit at) λ n a. making (λ x. record { number = n; place = a; address = x }) (fieldAt s a (addressSize type)))
+    → y ≡ making g (registerInstanceAt limit s true total type before at)
 unfolding registerInstanceAt instanceNumberAt
-instance-told g s total type before at table t e k =
-    k ∙ ap (λ q. making g (andThen q λ n a. making (λ x. record { number = n; place = a; address = x }) (fieldAt s a (addressSize type)))) (number-told s at t e register-limit)
+instance-told limit g s total type before at table t e k =
+    k ∙ ap (λ q. making g (andThen q λ n a. making (λ x. record { number = n; place = a; address = x }) (fieldAt s a (addressSize type)))) (number-told s at limit t e)
 
 -- An instance that was read had room.
-pub instance-room : (g : RegisterInstance → ℕ) (s : List ℕ) (total type : ℕ) (before : List RegisterInstance) (at : ℕ) {v m : ℕ}
-    → done v m ≡ making g (registerInstanceAt s true total type before at) → total + length before < 1024
+pub instance-room : (limit : ℕ) (g : RegisterInstance → ℕ) (s : List ℕ) (total type : ℕ) (before : List RegisterInstance) (at : ℕ) {v m : ℕ}
+    → done v m ≡ making g (registerInstanceAt limit s true total type before at) → total + length before < limit
 unfolding registerInstanceAt
-instance-room g s total type before at {v} {m} e =
-    let q = requiring (λ n. ltb (total + length before) registerLimit) 8 at (fieldAt s at 1) in
-    let f = found g (registerInstanceAt s true total type before at) e in
+instance-room limit g s total type before at {v} {m} e =
+    let q = requiring (λ n. ltb (total + length before) limit) 8 at (fieldAt s at 1) in
+    let f = found g (registerInstanceAt limit s true total type before at) e in
     let d = followed (requiring (fresh true (map registerNumber before)) 7 at q) _ (f .is) in
     let i : q ≡ done (d .value) (d .place) = passed (fresh true (map registerNumber before)) 7 at q (d .is) .1 in
-    let j : ltb (total + length before) registerLimit ≡ true = passed (λ n. ltb (total + length before) registerLimit) 8 at (fieldAt s at 1) i .0 in
-    let k : total + length before < registerLimit = ltb-true _ _ j in
-    omega (arith, register-limit)
+    let j : ltb (total + length before) limit ≡ true = passed (λ n. ltb (total + length before) limit) 8 at (fieldAt s at 1) i .0 in
+    ltb-true _ _ j
 
 -- A register is its ID and the rest.
-pub register-split : (s : List ℕ) (before : List Register) (at : ℕ) → registerAt s true before at ≡ andThen (requiring (fresh true (map registerId before)) 7 at (fieldAt s at 3)) (registerAfter s (registerTotal before))
+pub register-split : (limit : ℕ) (s : List ℕ) (before : List Register) (at : ℕ) → registerAt limit s true before at ≡ andThen (requiring (fresh true (map registerId before)) 7 at (fieldAt s at 3)) (registerAfter limit s (registerTotal before))
 unfolding registerAt registerHeadAt registerFlagsAt registerRestAt registerAfter
-register-split s before at = then-then _ _ _
+register-split limit s before at = then-then _ _ _
 
 module _ {B : Type 0} (g : B → Element) (p : Parsed RegisterHead) (f : RegisterHead → ℕ → Parsed B) {y : Parsed Element} where
   pub head-then : {x : RegisterHeadRead} {h : declared.RegisterHead} {n : ℕ} → registerHeadParsed x ≡ p → x ≡ RegisterHeadRead.Head h n
@@ -85,22 +78,22 @@ head-counted s ids at {h} {m} e =
     let k : 0 < f .value = ltb-true _ _ j in
     omega arith
 
-pub register-size : (s : List ℕ) (before : List Register) (at : ℕ) {i k m : ℕ} → done (record { id = i; instances = k }) m ≡ making registerElement (registerAt s true before at)
-    → (0 < k) × (registerTotal before + k ≤ 1024)
+pub register-size : (limit : ℕ) (s : List ℕ) (before : List Register) (at : ℕ) {i k m : ℕ} → done (record { id = i; instances = k }) m ≡ making registerElement (registerAt limit s true before at)
+    → (0 < k) × (registerTotal before + k ≤ limit)
 unfolding registerAt making
-register-size s before at {i} {k} {m} e =
-    let f : Found registerElement (registerAt s true before at) (record { id = i; instances = k }) m = found registerElement (registerAt s true before at) e in
+register-size limit s before at {i} {k} {m} e =
+    let f : Found registerElement (registerAt limit s true before at) (record { id = i; instances = k }) m = found registerElement (registerAt limit s true before at) e in
     let d = followed (registerHeadAt s true (map registerId before) at) _ (f .is) in
     let h = d .value in
-    let w = rowAt (registerInstanceAt s true (registerTotal before) (h .type)) (h .count) [] (d .place) in
+    let w = rowAt (registerInstanceAt limit s true (registerTotal before) (h .type)) (h .count) [] (d .place) in
     let j : Found (λ is. record { id = h .id; type = h .type; flags = h .flags; instances = is }) w (f .value) m = found _ w (sym (d .next)) in
-    let l : length (j .value) ≡ h .count = row-length (registerInstanceAt s true (registerTotal before) (h .type)) (h .count) [] (d .place) (j .is) in
+    let l : length (j .value) ≡ h .count = row-length (registerInstanceAt limit s true (registerTotal before) (h .type)) (h .count) [] (d .place) (j .is) in
     let n : length (f .value .instances) ≡ k = ap (λ x. x .instances) (f .made) in
     let o : j .value ≡ f .value .instances = ap (λ x. x .instances) (j .made) in
     let c : 0 < h .count = head-counted s (map registerId before) at (d .is) in
-    let b : registerTotal before + 0 + h .count ≤ 1024 =
-    row-bound (registerInstanceAt s true (registerTotal before) (h .type)) (registerTotal before) 1024
-    (λ x y a z g. instance-room registerNumber s (registerTotal before) (h .type) x y (sym (ap (making registerNumber) g)))
+    let b : registerTotal before + 0 + h .count ≤ limit =
+    row-bound (registerInstanceAt limit s true (registerTotal before) (h .type)) (registerTotal before) limit
+    (λ x y a z g. instance-room limit registerNumber s (registerTotal before) (h .type) x y (sym (ap (making registerNumber) g)))
     (h .count) [] (d .place) (j .is) c in
     let q : length (j .value) ≡ k = ap length o ∙ n in
     (omega arith, omega arith)

@@ -35,9 +35,9 @@ registerFlagsAt s i t at = andThen (flagsAt s at) λ f a. making (λ n. record {
 unfoldable pub registerRestAt : List ℕ → ℕ → ℕ → Parsed RegisterHead
 registerRestAt s i at = andThen (typeAt s at) λ t a. registerFlagsAt s i t a
 
--- The rest of a register, after its ID; `total` instances stand in the registers before.
-unfoldable pub registerAfter : List ℕ → ℕ → ℕ → ℕ → Parsed Register
-registerAfter s total i at =
+-- The rest of a register, after its ID. A file may have `limit` register instances, and `total` stand in the registers before.
+unfoldable pub registerAfter : ℕ → List ℕ → ℕ → ℕ → ℕ → Parsed Register
+registerAfter limit s total i at =
     andThen (registerRestAt s i at) λ h a.
     making (λ is. record { id = h .id; type = h .type; flags = h .flags; instances = is })
-    (rowAt (registerInstanceAt s true total (h .type)) (h .count) [] a)
+    (rowAt (registerInstanceAt limit s true total (h .type)) (h .count) [] a)

@@ -49,14 +49,21 @@ pub fn address_at(s: &[u8], at: usize, kind: u8) -> NumberRead
     number_at(s, at, Width::Eight)
 }
 
-// A register instance: its number. `seen` marks the numbers before it in the register, and `begun` instances stand before it in the file.
-pub fn register_instance_at(s: &[u8], at: usize, kind: u8, begun: usize, seen: &[u8]) -> ByteRead
+// A register instance: its number. `seen` marks the numbers before it in the register; `begun` instances stand before it in the file, which may have `limit`.
+pub fn register_instance_at(
+    s: &[u8],
+    at: usize,
+    kind: u8,
+    begun: usize,
+    limit: usize,
+    seen: &[u8],
+) -> ByteRead
     ensures { λ r. ⌜ ((total : ℕ) (before : List RegisterInstance)
         → Tells (unmarked (now (seen .entry))) (map registerNumber before)
         → begun ≡ total + length before
-        → byteParsed r ≡ making registerNumber (registerInstanceAt (now (s .entry)) true total kind before at)) ⌝ }
+        → byteParsed r ≡ making registerNumber (registerInstanceAt limit (now (s .entry)) true total kind before at)) ⌝ }
 {
-    let b = instance_number_at(s, at, begun, format::REGISTER_LIMIT, seen);
+    let b = instance_number_at(s, at, begun, limit, seen);
     match b {
         ByteRead::Byte(number, a) => {
             let x = address_at(s, a, kind);

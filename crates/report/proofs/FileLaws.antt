@@ -9,6 +9,8 @@ use borrow.Author.Tests.{le-leb, lt-leb, ne-eqb, leb-true}
 use lib.Dec.{leb}
 use lib.ListN.{length, take, drop, replicate, length-append, length-map}
 use lib.Seq.{take-at, length-take-le}
+use Rattle.limits.specs.Limits.{Limits}
+use Rattle.limits.specs.Classes.{Class}
 use Rattle.numbers.specs.BigEndian.{Bytes}
 use Rattle.numbers.proofs.Bools.{and-left, and-right}
 use Rattle.format.specs.Fields.{knownAttention}
@@ -39,9 +41,9 @@ unfolding gathered entriesOf Every
 some-entries [] h e = absurd (omega arith)
 some-entries (r ∷ rs) h e = simp (length-append, length-map) (omega (arith, e .0))
 
-module _ (file : List ℕ) (bytes : Bytes file) {c : Chip} {end : ℕ} (v : verdict file ≡ done c end) where
-  pub meets : Meets c
-  meets = verdict-meets file bytes v
+module _ (limits : Limits) (file : List ℕ) (bytes : Bytes file) {c : Chip} {end : ℕ} (v : verdict limits file ≡ done c end) where
+  pub meets : Meets limits c
+  meets = verdict-meets limits file bytes v
 
   some-registers : 0 < length (registerEntries c)
   unfolding registerEntries
@@ -61,7 +63,7 @@ module _ (file : List ℕ) (bytes : Bytes file) {c : Chip} {end : ℕ} (v : verd
     fits-root (t ∷ ts) e = rw e
 
     fits-is : fileFits (registerKeys c) readings ≡ true
-        → isolate file attention (wordsOf (registerKeys c) readings) (readOf (registerKeys c) readings) list ≡ isolateFile file attention readings list
+        → isolate limits file attention (wordsOf (registerKeys c) readings) (readOf (registerKeys c) readings) list ≡ isolateFile limits file attention readings list
     unfolding isolate isolateIn isolateFile isolateFileIn
     fits-is e = rw v (ap (λ o. cond (knownAttention attention) o (refusedOutcome 15 0 list)) (fits-root (rootFor attention c) e))
 
@@ -71,15 +73,15 @@ module _ (file : List ℕ) (bytes : Bytes file) {c : Chip} {end : ℕ} (v : verd
     misfit-root [] e = refl
     misfit-root (t ∷ ts) e = rw (e, none-fit)
 
-    misfit-is : fileFits (registerKeys c) readings ≡ false → isolate file attention [] [] list ≡ isolateFile file attention readings list
+    misfit-is : fileFits (registerKeys c) readings ≡ false → isolate limits file attention [] [] list ≡ isolateFile limits file attention readings list
     unfolding isolate isolateIn isolateFile isolateFileIn
     misfit-is e = rw v (ap (λ o. cond (knownAttention attention) o (refusedOutcome 15 0 list)) (misfit-root (rootFor attention c) e))
 
     -- The readings that decoding leaves: those of the file, or none.
     module _ {keys : List ℕ} (k : keys ≡ registerKeys c) where
       left : (words read : List ℕ) (b : Bool) → fileFits keys readings ≡ b
-          → isolate file attention (take (cond b (length keys) 0) (lentAfter b (wordsOf keys readings) words)) (take (cond b (length keys) 0) (lentAfter b (readOf keys readings) read)) list
-          ≡ isolateFile file attention readings list
+          → isolate limits file attention (take (cond b (length keys) 0) (lentAfter b (wordsOf keys readings) words)) (take (cond b (length keys) 0) (lentAfter b (readOf keys readings) read)) list
+          ≡ isolateFile limits file attention readings list
       unfolding lentAfter
       left words read true f =
           let x = take-at (wordsOf keys readings) (drop (length (wordsOf keys readings)) words) (length keys) (each-length valueIn keys readings) in
@@ -90,51 +92,51 @@ module _ (file : List ℕ) (bytes : Bytes file) {c : Chip} {end : ℕ} (v : verd
       pub decoded-is : (words read : List ℕ) → length keys ≤ length words → length keys ≤ length read
           → {n : ℕ} → n ≡ cond (decodes keys readings words read) (length keys) 0
           → {words′ read′ : List ℕ} → words′ ≡ lentAfter (decodes keys readings words read) (wordsOf keys readings) words → read′ ≡ lentAfter (decodes keys readings words read) (readOf keys readings) read
-          → isolate file attention (take n words′) (take n read′) list ≡ isolateFile file attention readings list
+          → isolate limits file attention (take n words′) (take n read′) list ≡ isolateFile limits file attention readings list
       unfolding decodes placesFor
       decoded-is words read p q a w u = rw (a, w, u, le-leb _ _ p, le-leb _ _ q) (left words read (fileFits keys readings) refl)
 
-module _ (file : List ℕ) (attention : ℕ) (readings list : List ℕ) where
+module _ (limits : Limits) (file : List ℕ) (attention : ℕ) (readings list : List ℕ) where
   -- A file that is refused.
-  file-refused : {n p : ℕ} → verdict file ≡ refused n p → (words read : List ℕ) → isolate file attention words read list ≡ isolateFile file attention readings list
+  file-refused : {n p : ℕ} → verdict limits file ≡ refused n p → (words read : List ℕ) → isolate limits file attention words read list ≡ isolateFile limits file attention readings list
   unfolding isolate isolateIn isolateFile isolateFileIn
   file-refused v words read = rw v
 
-  pub answer-file : {n p : ℕ} → verdict file ≡ refused n p → refusedOutcome n p list ≡ isolateFile file attention readings list
+  pub answer-file : {n p : ℕ} → verdict limits file ≡ refused n p → refusedOutcome n p list ≡ isolateFile limits file attention readings list
   unfolding isolateFile isolateFileIn
   answer-file v = rw v
 
   -- The answer is isolation's, with some readings.
-  pub some-readings : Bytes file → (words : List ℕ) × (read : List ℕ) × (isolate file attention words read list ≡ isolateFile file attention readings list)
-  some-readings bytes = go (verdict file) refl
+  pub some-readings : Bytes file → (words : List ℕ) × (read : List ℕ) × (isolate limits file attention words read list ≡ isolateFile limits file attention readings list)
+  some-readings bytes = go (verdict limits file) refl
     where
-      pick : (c : Chip) (end : ℕ) → verdict file ≡ done c end → (b : Bool) → fileFits (registerKeys c) readings ≡ b
-          → (words : List ℕ) × (read : List ℕ) × (isolate file attention words read list ≡ isolateFile file attention readings list)
-      pick c end v true e = (wordsOf (registerKeys c) readings, readOf (registerKeys c) readings, fits-is file bytes v attention readings list e)
-      pick c end v false e = ([], [], misfit-is file bytes v attention readings list e)
+      pick : (c : Chip) (end : ℕ) → verdict limits file ≡ done c end → (b : Bool) → fileFits (registerKeys c) readings ≡ b
+          → (words : List ℕ) × (read : List ℕ) × (isolate limits file attention words read list ≡ isolateFile limits file attention readings list)
+      pick c end v true e = (wordsOf (registerKeys c) readings, readOf (registerKeys c) readings, fits-is limits file bytes v attention readings list e)
+      pick c end v false e = ([], [], misfit-is limits file bytes v attention readings list e)
 
-      go : (q : Parsed Chip) → verdict file ≡ q → (words : List ℕ) × (read : List ℕ) × (isolate file attention words read list ≡ isolateFile file attention readings list)
+      go : (q : Parsed Chip) → verdict limits file ≡ q → (words : List ℕ) × (read : List ℕ) × (isolate limits file attention words read list ≡ isolateFile limits file attention readings list)
       go (done c end) v = pick c end v (fileFits (registerKeys c) readings) refl
       go (refused n p) v = ([], [], file-refused v [] [])
 
   -- It never is 43.
-  pub file-number : Bytes file → isolateFile file attention readings list .number ≡ 43 → ⊥
-  file-number bytes e = let x = some-readings bytes in isolate-number file attention (x .0) (x .1) list (ap (λ o. o .number) (x .2) ∙ e)
+  pub file-number : Bytes file → isolateFile limits file attention readings list .number ≡ 43 → ⊥
+  file-number bytes e = let x = some-readings bytes in isolate-number limits file attention (x .0) (x .1) list (ap (λ o. o .number) (x .2) ∙ e)
 
   -- Its records have room in the list.
-  pub file-room : Bytes file → isolateFile file attention readings list .records ≤ length list / 8
+  pub file-room : Bytes file → isolateFile limits file attention readings list .records ≤ length list / 8
   unfolding recordSize
   file-room bytes =
       let x = some-readings bytes in
-      let e : isolate file attention (x .0) (x .1) list .records ≡ isolateFile file attention readings list .records = ap (λ o. o .records) (x .2) in
+      let e : isolate limits file attention (x .0) (x .1) list .records ≡ isolateFile limits file attention readings list .records = ap (λ o. o .records) (x .2) in
       ⊎-elim
-      (λ r. let z : isolate file attention (x .0) (x .1) list .records ≡ 0 = ap (λ o. o .records) (r .is) in omega (arith, e, z))
+      (λ r. let z : isolate limits file attention (x .0) (x .1) list .records ≡ 0 = ap (λ o. o .records) (r .is) in omega (arith, e, z))
       (λ w.
       let g = chipGraph (w .chip) attention (x .0) (x .1) in
       let n = length (listing g (nodePosition (w .chip) (w .root .id) (w .root .number))) in
-      let k : isolate file attention (x .0) (x .1) list .records ≡ n = ap (λ o. o .records) (succeeds-in file attention (x .0) (x .1) list w) in
+      let k : isolate limits file attention (x .0) (x .1) list .records ≡ n = ap (λ o. o .records) (succeeds-in limits file attention (x .0) (x .1) list w) in
       omega (arith, e, k, leb-true n (length list / 8) (w .room)))
-      (outcome-cases file attention (x .0) (x .1) list)
+      (outcome-cases limits file attention (x .0) (x .1) list)
 
 -- The first names have places where all have.
 pub first-in : (keys : List ℕ) {m w : ℕ} → m ≤ length keys → m ≤ w → length (take m keys) ≤ w
@@ -170,11 +172,11 @@ module _ (m words read : ℕ) where
   readings-in p q b x s e = rw (le-leb _ _ p, le-leb _ _ q) at e
 
 -- A class of tables, with those for the readings
-pub class-room : (m n : ℕ) (file : List ℕ) {o : Outcome} (x s : Outcome)
-    → o ≡ cond (bothFit (length (replicate {A = ℕ} m 0)) (length (replicate {A = ℕ} m 0)) (length (replicate {A = ℕ} m 0))
-    && roomIn (lengthsOf (replicate m 0) (replicate m 0) (replicate n 0) (replicate n 0) (replicate n 0) (replicate (n * 64) 0)) (length (replicate {A = ℕ} n 0)) file) x s
-    → o ≡ cond (roomFor (classRoom m n) file) x s
+pub class-room : (limits : Limits) (k : Class) (file : List ℕ) {o : Outcome} (x s : Outcome)
+    → o ≡ cond (bothFit (length (replicate {A = ℕ} (k .registers) 0)) (length (replicate {A = ℕ} (k .registers) 0)) (length (replicate {A = ℕ} (k .registers) 0))
+    && roomIn limits (lengthsOf (replicate (k .registers) 0) (replicate (k .registers) 0) (replicate (k .nodes) 0) (replicate (k .nodes) 0) (replicate (k .nodes) 0) (replicate (k .nodes * 64) 0)) (length (replicate {A = ℕ} (k .nodes) 0)) file) x s
+    → o ≡ cond (roomFor limits (classRoom k) file) x s
 unfolding bothFit
-class-room m n file x s e =
-    let h : leb (length (replicate {A = ℕ} m 0)) (length (replicate {A = ℕ} m 0)) ≡ true = le-leb _ _ (let z : length (replicate {A = ℕ} m 0) ≤ length (replicate {A = ℕ} m 0) = omega arith in z) in
-    class-outcome m n file x s (rw h at e)
+class-room limits k file x s e =
+    let h : leb (length (replicate {A = ℕ} (k .registers) 0)) (length (replicate {A = ℕ} (k .registers) 0)) ≡ true = le-leb _ _ (let z : length (replicate {A = ℕ} (k .registers) 0) ≤ length (replicate {A = ℕ} (k .registers) 0) = omega arith in z) in
+    class-outcome limits k file x s (rw h at e)

@@ -6,3 +6,4 @@ pub mod FileLaws
 pub mod ListLaws
 pub mod SamplesHold
 pub mod StationLaws
+pub mod BeforeLaws

@@ -7,6 +7,7 @@ use native.Mathlib.Omega.{arith}
 use borrow.Author.Tests.{le-leb, leb-true, eqb-false}
 use lib.Dec.{leb, eqb}
 use lib.ListN.{length, drop, replicate, length-append, length-replicate, List·getD-append}
+use Rattle.limits.specs.Limits.{Limits}
 use Rattle.numbers.specs.BigEndian.{Bytes}
 use Rattle.graph.specs.Chains.{Graph, reachedCount}
 use Rattle.format.specs.Fields.{knownAttention}
@@ -38,7 +39,7 @@ cond-same : (b : Bool) {o p x y : Outcome} → Same o p → Same x y → Same (c
 cond-same true h k = h
 cond-same false h k = k
 
-module _ (short long : List ℕ) (l : length short ≤ length long) (attention : ℕ) where
+module _ (limits : Limits) (short long : List ℕ) (l : length short ≤ length long) (attention : ℕ) where
   refused-same : (n p : ℕ) → Same (refusedOutcome n p short) (refusedOutcome n p long)
   unfolding textOf recordLines
   refused-same n p = record { text = λ h. refl }
@@ -89,26 +90,26 @@ module _ (short long : List ℕ) (l : length short ≤ length long) (attention :
   parsed-same readings (refused n p) = refused-same n p
   parsed-same readings (done c end) = cond-same (knownAttention attention) (file-same c readings (rootFor attention c)) (refused-same 15 0)
 
-  list-same : (file readings : List ℕ) → Same (isolateFile file attention readings short) (isolateFile file attention readings long)
+  list-same : (file readings : List ℕ) → Same (isolateFile limits file attention readings short) (isolateFile limits file attention readings long)
   unfolding isolateFile
-  list-same file readings = parsed-same readings (verdict file)
+  list-same file readings = parsed-same readings (verdict limits file)
 
 -- The code's answer by a list of zeros.
-module _ (file : List ℕ) (attention : ℕ) (readings : List ℕ) (n : ℕ) (a : Isolated) (after : List ℕ) (is : outcomeOf a after ≡ isolateFile file attention readings (replicate n 0)) where
+module _ (limits : Limits) (file : List ℕ) (attention : ℕ) (readings : List ℕ) (n : ℕ) (a : Isolated) (after : List ℕ) (is : outcomeOf a after ≡ isolateFile limits file attention readings (replicate n 0)) where
   -- Its records have room.
   pub answer-room : Bytes file → n ≤ 32768 → length after ≡ length (replicate {A = ℕ} n 0) → (outcomeOf a after .records ≤ 4096) × (outcomeOf a after .records * 8 ≤ length after)
   answer-room bytes h k =
-      let e : outcomeOf a after .records ≡ isolateFile file attention readings (replicate n 0) .records = ap (λ o. o .records) is in
-      let r = file-room file attention readings (replicate n 0) bytes in
+      let e : outcomeOf a after .records ≡ isolateFile limits file attention readings (replicate n 0) .records = ap (λ o. o .records) is in
+      let r = file-room limits file attention readings (replicate n 0) bytes in
       let l = length-replicate {A = ℕ} n 0 in
       (omega (arith, e, r, l), omega (arith, e, r, l, k))
 
   -- Where it is not that these are too many, the text is that by a longer list.
-  pub answer-text : (m : ℕ) → n ≤ m → {b : Bool} → b ≡ eqb (outcomeOf a [] .number) 19 → b ≡ false → textOf (outcomeOf a after) ≡ textOf (isolateFile file attention readings (replicate m 0))
+  pub answer-text : (m : ℕ) → n ≤ m → {b : Bool} → b ≡ eqb (outcomeOf a [] .number) 19 → b ≡ false → textOf (outcomeOf a after) ≡ textOf (isolateFile limits file attention readings (replicate m 0))
   answer-text m h e f =
       let l : length (replicate {A = ℕ} n 0) ≤ length (replicate {A = ℕ} m 0) = omega (arith, length-replicate {A = ℕ} n 0, length-replicate {A = ℕ} m 0) in
       ap textOf is
-      ∙ list-same (replicate n 0) (replicate m 0) l attention file readings .text (λ z. eqb-false (outcomeOf a [] .number) 19 (sym e ∙ f) (number-is a ∙ ap (λ o. o .number) is ∙ z))
+      ∙ list-same limits (replicate n 0) (replicate m 0) l attention file readings .text (λ z. eqb-false (outcomeOf a [] .number) 19 (sym e ∙ f) (number-is a ∙ ap (λ o. o .number) is ∙ z))
     where
       number-is : (a : Isolated) → outcomeOf a [] .number ≡ outcomeOf a after .number
       number-is (Isolated.Done i) = refl

@@ -5,7 +5,8 @@ use Rattle.format.specs.Cycles.{leads, childEdge, OnCycle, cyclesFrom, cycleFau
 use Rattle.format.specs.ExpressionLayout.{operationOf, readingAt, operandsAt, shiftedAt, bodyAt, exprAt}
 use Rattle.format.specs.Fields.{fieldAt, same, keywordAt, countAt, knownType, typeAt, addressSize, knownFlags, flagsAt, readable, knownAttention, attentionAt, member, fresh}
 use Rattle.format.specs.FileLayout.{startAt, rootAt, rootsAt, fileAt}
-use Rattle.format.specs.Limits.{fileLimit, registerLimit, nodeLimit, levels, chipdata, regs, node, root}
+use Rattle.limits.specs.Limits.{levels}
+use Rattle.format.specs.Keywords.{chipdata, regs, node, root}
 use Rattle.format.specs.Lookup.{some, position, at, gathered, entriesOf, registerEntries, registerNamed, nodeEntriesOf, nodeEntries, nodeNamed, registerPosition, nodePosition}
 use Rattle.format.specs.Meaning.{valueWithin, bitsWithin}
 use Rattle.format.specs.NodeLayout.{captureAt, ruleAt, childAt, instanceHeadAt, nodeInstanceAt, nodeTotal, nodeHeadAt, nodeAt, nodesAt}
@@ -39,5 +40,5 @@ called-hold [] rest h k = k
 called-hold (r ∷ rs) rest h k = (h .0, called-hold rs rest (h .1) k)
 
 pub samples-hold : AllHold samples
-unfolding leads childEdge OnCycle cyclesFrom cycleFaults operationOf readingAt operandsAt shiftedAt bodyAt exprAt fieldAt same keywordAt countAt knownType typeAt addressSize knownFlags flagsAt readable knownAttention attentionAt member fresh startAt rootAt rootsAt fileAt fileLimit registerLimit nodeLimit levels chipdata regs node root some position at gathered entriesOf registerEntries registerNamed nodeEntriesOf nodeEntries nodeNamed registerPosition nodePosition valueWithin bitsWithin captureAt ruleAt childAt instanceHeadAt nodeInstanceAt nodeTotal nodeHeadAt nodeAt nodesAt andThen making require requiring rowAt unless fits hasRule hasRegister hasRegisterThat registerFaults hasNode captureFaults namedFaults ruleFaults childFaults instanceFaults rootFaults referenceFaults namedBy registerTotal registerInstanceAt registerHeadAt registerAt registersAt b1 gather judged verdict checkOf check any count silent nothingBelow linked reachedFrom listable listed below kept listedOf reachedCount reachedIn reached onCycle firstOf ruleFor rootFor childFor ruleUnread ruleActive entryActive childPosition entryChild chipGraph entryUnread reachedUnread listOutcome allRead fromRoot isolateIn isolate readingsFit hasValue wordFor unreadFaults recordSize recordOf recordBytes listing linkRecord recordsOf bigEndian bytesOf bitOf wordOf notBits andBits orBits leftBits rightBits present field keyOf readByte valueIn recordFits recordsFit fileFits eachRecord fileFromRoot isolateFileIn isolateFile stationList report spelled decimal typeWord nodeWord instWord bitWord stepsWord refusedWord placeWord lineEnd named bitLine recordLine recordLines stepsLine refusedLine textOf reading found unknown
+unfolding leads childEdge OnCycle cyclesFrom cycleFaults operationOf readingAt operandsAt shiftedAt bodyAt exprAt fieldAt same keywordAt countAt knownType typeAt addressSize knownFlags flagsAt readable knownAttention attentionAt member fresh startAt rootAt rootsAt fileAt levels chipdata regs node root some position at gathered entriesOf registerEntries registerNamed nodeEntriesOf nodeEntries nodeNamed registerPosition nodePosition valueWithin bitsWithin captureAt ruleAt childAt instanceHeadAt nodeInstanceAt nodeTotal nodeHeadAt nodeAt nodesAt andThen making require requiring rowAt unless fits hasRule hasRegister hasRegisterThat registerFaults hasNode captureFaults namedFaults ruleFaults childFaults instanceFaults rootFaults referenceFaults namedBy registerTotal registerInstanceAt registerHeadAt registerAt registersAt b1 gather judged verdict checkOf check any count silent nothingBelow linked reachedFrom listable listed below kept listedOf reachedCount reachedIn reached onCycle firstOf ruleFor rootFor childFor ruleUnread ruleActive entryActive childPosition entryChild chipGraph entryUnread reachedUnread listOutcome allRead fromRoot isolateIn isolate readingsFit hasValue wordFor unreadFaults recordSize recordOf recordBytes listing linkRecord recordsOf bigEndian bytesOf bitOf wordOf notBits andBits orBits leftBits rightBits present field keyOf readByte valueIn recordFits recordsFit fileFits eachRecord fileFromRoot isolateFileIn isolateFile stationList report spelled decimal typeWord nodeWord instWord bitWord stepsWord refusedWord placeWord lineEnd named bitLine recordLine recordLines stepsLine refusedLine textOf reading found unknown
 samples-hold = called-hold calls.samples prints calls-hold.samples-hold (refl, (refl, tt))

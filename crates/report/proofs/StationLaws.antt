@@ -10,8 +10,8 @@ use lib.ListN.{length, take, length-map}
 use lib.Seq.{take-all, length-take-le}
 use Rattle.numbers.specs.BigEndian.{bigEndian, bytesOf, Bytes}
 use Rattle.numbers.specs.Field.{field}
+use Rattle.limits.specs.Limits.{programLimits}
 use Rattle.format.specs.Fields.{knownAttention}
-use Rattle.format.specs.Limits.{fileLimit, registerLimit}
 use Rattle.format.specs.Lookup.{registerEntries}
 use Rattle.format.specs.Parsed.{Parsed, done, refused, require}
 use Rattle.format.specs.Tree.{Root, Chip}
@@ -38,23 +38,30 @@ record-line attention bit id number rest a b i n =
     rw (e, f, g, h)
 
 -- A chip data file that is too long.
-too-long : (s : List ℕ) → 65536 < length s → verdict s ≡ refused 1 0
-unfolding verdict fileLimit require
-too-long s h = rw (lt-leb (length s) 65536 h)
+too-long : (s : List ℕ) → programLimits .bytes < length s → verdict programLimits s ≡ refused 1 0
+unfolding verdict require
+too-long s h = rw (lt-leb (length s) (programLimits .bytes) h)
 
--- The first 65,537 bytes of a chip data file decide.
-pub chip-front : (s : List ℕ) → verdict (take 65537 s) ≡ verdict s
-chip-front s = go (leb (length s) 65537) refl
+-- So many bytes of a chip data file decide.
+abbrev pub chipFront : ℕ
+chipFront = programLimits .bytes + 1
+
+pub chip-front : (s : List ℕ) → verdict programLimits (take chipFront s) ≡ verdict programLimits s
+chip-front s = go (leb (length s) chipFront) refl
   where
-    go : (b : Bool) → leb (length s) 65537 ≡ b → verdict (take 65537 s) ≡ verdict s
-    go true e = ap verdict (take-all 65537 s (leb-true _ _ e))
+    go : (b : Bool) → leb (length s) chipFront ≡ b → verdict programLimits (take chipFront s) ≡ verdict programLimits s
+    go true e = ap (verdict programLimits) (take-all chipFront s (leb-true _ _ e))
     go false e =
-        let h : 65537 < length s = leb-false _ _ e in
-        let l : length (take 65537 s) ≡ 65537 = length-take-le 65537 s (omega arith) in
-        too-long (take 65537 s) (omega arith) ∙ sym (too-long s (omega arith))
+        let h : chipFront < length s = leb-false _ _ e in
+        let l : length (take chipFront s) ≡ chipFront = length-take-le chipFront s (omega arith) in
+        too-long (take chipFront s) (omega arith) ∙ sym (too-long s (omega arith))
 
--- A readings file that is too long: one for 1,024 register instances has 16,384 bytes.
-no-fit : (keys bytes : List ℕ) → length keys ≤ 1024 → 16384 < length bytes → fileFits keys bytes ≡ false
+-- So many bytes of a readings file decide: one for as many register instances as a file may have has one byte less.
+abbrev pub readingsFront : ℕ
+readingsFront = programLimits .registerInstances * 16 + 1
+
+-- A readings file that is too long.
+no-fit : (keys bytes : List ℕ) → length keys ≤ programLimits .registerInstances → programLimits .registerInstances * 16 < length bytes → fileFits keys bytes ≡ false
 unfolding fileFits
 no-fit keys bytes few h = rw (ne-eqb (length bytes) (16 * length keys) (λ e. omega (arith, e)))
 
@@ -62,33 +69,33 @@ no-fit-root : (c : Chip) (attention : ℕ) (bytes list : List ℕ) (t : Root) (t
 unfolding fileFromRoot
 no-fit-root c attention bytes list t ts e = rw e
 
--- The first 16,385 bytes of a readings file decide.
-module _ (c : Chip) (few : length (registerKeys c) ≤ 1024) (attention : ℕ) (bytes list : List ℕ) where
-  root-front : (ts : List Root) → 16385 < length bytes → fileFromRoot c attention (take 16385 bytes) list ts ≡ fileFromRoot c attention bytes list ts
+-- Its first bytes decide.
+module _ (c : Chip) (few : length (registerKeys c) ≤ programLimits .registerInstances) (attention : ℕ) (bytes list : List ℕ) where
+  root-front : (ts : List Root) → readingsFront < length bytes → fileFromRoot c attention (take readingsFront bytes) list ts ≡ fileFromRoot c attention bytes list ts
   unfolding fileFromRoot
   root-front [] h = refl
   root-front (t ∷ ts) h =
-      let l : length (take 16385 bytes) ≡ 16385 = length-take-le 16385 bytes (omega arith) in
-      no-fit-root c attention (take 16385 bytes) list t ts (no-fit (registerKeys c) (take 16385 bytes) few (omega arith))
+      let l : length (take readingsFront bytes) ≡ readingsFront = length-take-le readingsFront bytes (omega arith) in
+      no-fit-root c attention (take readingsFront bytes) list t ts (no-fit (registerKeys c) (take readingsFront bytes) few (omega arith))
       ∙ sym (no-fit-root c attention bytes list t ts (no-fit (registerKeys c) bytes few (omega arith)))
 
-  readings-front : (end : ℕ) → isolateFileIn attention (take 16385 bytes) list (done c end) ≡ isolateFileIn attention bytes list (done c end)
+  readings-front : (end : ℕ) → isolateFileIn attention (take readingsFront bytes) list (done c end) ≡ isolateFileIn attention bytes list (done c end)
   unfolding isolateFileIn
-  readings-front end = go (leb (length bytes) 16385) refl
+  readings-front end = go (leb (length bytes) readingsFront) refl
     where
-      go : (b : Bool) → leb (length bytes) 16385 ≡ b
-          → isolateFileIn attention (take 16385 bytes) list (done c end) ≡ isolateFileIn attention bytes list (done c end)
-      go true e = ap (λ u. isolateFileIn attention u list (done c end)) (take-all 16385 bytes (leb-true _ _ e))
+      go : (b : Bool) → leb (length bytes) readingsFront ≡ b
+          → isolateFileIn attention (take readingsFront bytes) list (done c end) ≡ isolateFileIn attention bytes list (done c end)
+      go true e = ap (λ u. isolateFileIn attention u list (done c end)) (take-all readingsFront bytes (leb-true _ _ e))
       go false e = ap (λ o. cond (knownAttention attention) o (refusedOutcome 15 0 list)) (root-front (rootFor attention c) (leb-false _ _ e))
 
 -- The program reads as many bytes of its files as decide, so that a longer file is seen to be longer.
 pub first-bytes : (file : List ℕ) → Bytes file → (attention : ℕ) (readings : List ℕ)
-    → report (take 65537 file) attention (take 16385 readings) ≡ report file attention readings
-unfolding report isolateFile isolateFileIn registerLimit
+    → report (take chipFront file) attention (take readingsFront readings) ≡ report file attention readings
+unfolding report isolateFile isolateFileIn
 first-bytes file bytes attention readings =
-    ap (λ q. textOf (isolateFileIn attention (take 16385 readings) stationList q)) (chip-front file) ∙ ap textOf (go (verdict file) refl)
+    ap (λ q. textOf (isolateFileIn attention (take readingsFront readings) stationList q)) (chip-front file) ∙ ap textOf (go (verdict programLimits file) refl)
   where
-    go : (q : Parsed Chip) → verdict file ≡ q → isolateFileIn attention (take 16385 readings) stationList q ≡ isolateFileIn attention readings stationList q
+    go : (q : Parsed Chip) → verdict programLimits file ≡ q → isolateFileIn attention (take readingsFront readings) stationList q ≡ isolateFileIn attention readings stationList q
     go (done c end) v =
-        readings-front c (omega (arith, length-map (registerEntries c) (λ e. keyOf (e .id) (e .instance .number)), meets file bytes v .limits .registers)) attention readings stationList end
+        readings-front c (omega (arith, length-map (registerEntries c) (λ e. keyOf (e .id) (e .instance .number)), meets programLimits file bytes v .within .registers)) attention readings stationList end
     go (refused n p) v = refl

@@ -1,7 +1,7 @@
 -- The laws of text put to a lent list of bytes.
 use Prim.Native.Nat.{ℕ, suc, _+_, _≤_, _<_}
-use mathlib.Core.List.{List, _++_}
-use mathlib.Core.Path.{_≡_, refl, sym, _∙_, ap}
+use mathlib.Core.List.{List, [], _∷_, _++_}
+use mathlib.Core.Path.{_≡_, refl, sym, _∙_, ap, subst}
 use native.Mathlib.Nat.{add-zero}
 use native.Mathlib.Numerals.{add-one}
 use native.Mathlib.Omega.{arith}
@@ -58,3 +58,16 @@ done-text e = ap textOf e
 pub refused-text : {n p : ℕ} {l : List ℕ} {o : Outcome} → 0 < n → refusedOutcome n p l ≡ o → refusedLine n p ≡ textOf o
 unfolding textOf
 refused-text {n} {p} {l} h e = sym (rw (ne-eqb n 0 (λ z. omega (arith, z)))) ∙ ap textOf e
+
+-- A text that has no byte changes nothing.
+pub put-none : {before part after : List ℕ} {next : ℕ} → Put before 0 part after next → next ≡ 0 → after ≡ before
+unfolding written
+put-none {before} {part} p e = p .text ∙ go part (omega (arith, p .place, e))
+  where
+    go : (part : List ℕ) → length part ≡ 0 → written before 0 part ≡ before
+    go [] e = refl
+    go (x ∷ xs) e = absurd (omega arith)
+
+-- What is put to a text that is the same is put to it.
+pub put-from : {before same part after : List ℕ} {at next : ℕ} → same ≡ before → Put same at part after next → Put before at part after next
+put-from {before} {same} {part} {after} {at} {next} e p = subst (λ t. Put t at part after next) e p

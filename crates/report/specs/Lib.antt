@@ -1,3 +1,4 @@
 pub mod Text
 pub mod Report
 pub mod Samples
+pub mod Before

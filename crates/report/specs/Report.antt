@@ -3,6 +3,7 @@ use Prim.Native.Nat.{ℕ}
 use mathlib.Core.Bool.{cond}
 use mathlib.Core.List.{List, [], _∷_}
 use lib.ListN.{replicate}
+use Rattle.limits.specs.Limits.{Limits, programLimits}
 use Rattle.format.specs.Fields.{knownAttention}
 use Rattle.format.specs.Parsed.{Parsed, done, refused}
 use Rattle.format.specs.Tree.{Root, Chip}
@@ -26,14 +27,14 @@ isolateFileIn attention readings list (refused n p) = refusedOutcome n p list
 isolateFileIn attention readings list (done c end) =
     cond (knownAttention attention) (fileFromRoot c attention readings list (rootFor attention c)) (refusedOutcome 15 0 list)
 
--- Isolation of a chip data file with a readings file.
-unfoldable pub isolateFile : List ℕ → ℕ → List ℕ → List ℕ → Outcome
-isolateFile file attention readings list = isolateFileIn attention readings list (verdict file)
+-- Isolation of a chip data file with a readings file, by the limits that hold.
+unfoldable pub isolateFile : Limits → List ℕ → ℕ → List ℕ → List ℕ → Outcome
+isolateFile limits file attention readings list = isolateFileIn attention readings list (verdict limits file)
 
 -- "Its list holds 4,096 records."
 unfoldable pub stationList : List ℕ
 stationList = replicate 32768 0
 
--- What the station prints for a file, a type and a readings file.
+-- What the station prints for a file, a type and a readings file. "The program keeps 01's limits for bytes and instances and refuses by 1 and 8 there" (document 02, x).
 unfoldable pub report : List ℕ → ℕ → List ℕ → List ℕ
-report file attention readings = textOf (isolateFile file attention readings stationList)
+report file attention readings = textOf (isolateFile programLimits file attention readings stationList)

@@ -4,6 +4,14 @@ use format::Refusal;
 use isolation::Isolated;
 use isolation::answer::answer;
 use isolation::answer::is_exact;
+use limits::LimitSet;
+use limits::classes::LARGE_NODES;
+use limits::classes::LARGE_REGISTERS;
+use limits::classes::MIDDLE_NODES;
+use limits::classes::MIDDLE_REGISTERS;
+use limits::classes::SMALL_NODES;
+use limits::classes::SMALL_REGISTERS;
+use limits::classes::larger_classes;
 use reader::Layout;
 use reader::LayoutRead;
 use reader::examined::examine_in;
@@ -13,6 +21,9 @@ ghost use Prim.Native.Nat.{_≤_};
 ghost use mathlib.Core.Bool.{cond, _&&_};
 ghost use mathlib.Core.Path.{_≡_};
 ghost use lib.ListN.{length};
+ghost use Rattle.limits.specs.declared.LimitSet.{LimitSet};
+ghost use Rattle.limits.specs.Classes.{small, middle, large};
+ghost use Rattle.limits.specs.Limits.{programLimits, limitsOf};
 ghost use Rattle.reader.specs.Classes.{classRoom};
 ghost use Rattle.reader.specs.Examined.{lengthsOf, roomFor, Examined};
 ghost use Rattle.readings.specs.ReadingsFile.{wordsOf, readOf, decodes, lentAfter};
@@ -63,10 +74,11 @@ fn isolate_named(
     words: &mut [u64],
     read: &mut [u8],
 ) -> Isolated
-    ensures { λ r. ⌜ (Examined (now (file .entry)) l (now (keys .entry)) (now (index .entry)) (now (names .entry)) (now (places .entry)) (now (child .entry))
+    ensures { λ r. ⌜ ((of : LimitSet)
+        → Examined of (now (file .entry)) l (now (keys .entry)) (now (index .entry)) (now (names .entry)) (now (places .entry)) (now (child .entry))
         → outcomeOf r (now (list .exit))
         ≡ cond (bothFit (l .«register_instances») (length (now (words .entry))) (length (now (read .entry))) && bothFit (l .«node_instances») (length (now (active .entry))) (length (now (unread .entry))))
-        (isolateFile (now (file .entry)) attention (now (readings .entry)) (now (list .entry)))
+        (isolateFile (limitsOf of) (now (file .entry)) attention (now (readings .entry)) (now (list .entry)))
         (refusedOutcome 43 0 (now (list .entry)))) ⌝ }
 {
     let m = l.register_instances;
@@ -119,8 +131,8 @@ fn isolate_in(
     read: &mut [u8],
 ) -> Isolated
     ensures { λ r. ⌜ outcomeOf r (now (list .exit))
-        ≡ cond (bothFit (length (now (keys .entry))) (length (now (words .entry))) (length (now (read .entry))) && roomIn (lengthsOf (now (keys .entry)) (now (kinds .entry)) (now (names .entry)) (now (wanted .entry)) (now (places .entry)) (now (child .entry))) (length (now (unread .entry))) (now (file .entry)))
-        (isolateFile (now (file .entry)) attention (now (readings .entry)) (now (list .entry)))
+        ≡ cond (bothFit (length (now (keys .entry))) (length (now (words .entry))) (length (now (read .entry))) && roomIn programLimits (lengthsOf (now (keys .entry)) (now (kinds .entry)) (now (names .entry)) (now (wanted .entry)) (now (places .entry)) (now (child .entry))) (length (now (unread .entry))) (now (file .entry)))
+        (isolateFile programLimits (now (file .entry)) attention (now (readings .entry)) (now (list .entry)))
         (refusedOutcome 43 0 (now (list .entry))) ⌝ }
 {
     if !both_fit(keys.len(), words.len(), read.len()) {
@@ -137,6 +149,7 @@ fn isolate_in(
     }
     let e = examine_in(
         file,
+        LimitSet::Program,
         keys,
         kinds,
         index,
@@ -167,24 +180,24 @@ fn isolate_in(
     }
 }
 
-// With tables for 32 register instances and 8 node instances.
+// With the tables of the small class.
 fn isolate_small(file: &[u8], attention: u8, readings: &[u8], list: &mut [u8]) -> Isolated
     ensures { λ r. ⌜ outcomeOf r (now (list .exit))
-        ≡ cond (roomFor (classRoom 32 8) (now (file .entry)))
-        (isolateFile (now (file .entry)) attention (now (readings .entry)) (now (list .entry)))
+        ≡ cond (roomFor programLimits (classRoom small) (now (file .entry)))
+        (isolateFile programLimits (now (file .entry)) attention (now (readings .entry)) (now (list .entry)))
         (refusedOutcome 43 0 (now (list .entry))) ⌝ }
 {
-    let mut keys = [0u64; 32];
-    let mut kinds = [0u64; 32];
-    let mut index = [0u16; 96];
-    let mut names = [0u64; 8];
-    let mut wanted = [0u64; 8];
-    let mut places = [0u64; 8];
-    let mut node_index = [0u16; 48];
-    let mut child = [0u16; 512];
-    let mut unread = [0u64; 8];
-    let mut words = [0u64; 32];
-    let mut read = [0u8; 32];
+    let mut keys = [0u64; SMALL_REGISTERS];
+    let mut kinds = [0u64; SMALL_REGISTERS];
+    let mut index = [0u16; SMALL_REGISTERS * 2 + 32];
+    let mut names = [0u64; SMALL_NODES];
+    let mut wanted = [0u64; SMALL_NODES];
+    let mut places = [0u64; SMALL_NODES];
+    let mut node_index = [0u16; SMALL_NODES * 2 + 32];
+    let mut child = [0u16; SMALL_NODES * 64];
+    let mut unread = [0u64; SMALL_NODES];
+    let mut words = [0u64; SMALL_REGISTERS];
+    let mut read = [0u8; SMALL_REGISTERS];
     isolate_in(
         file,
         attention,
@@ -204,24 +217,24 @@ fn isolate_small(file: &[u8], attention: u8, readings: &[u8], list: &mut [u8]) -
     )
 }
 
-// With tables for as many instances as a file may have.
-fn isolate_full(file: &[u8], attention: u8, readings: &[u8], list: &mut [u8]) -> Isolated
+// With those of the middle one.
+fn isolate_middle(file: &[u8], attention: u8, readings: &[u8], list: &mut [u8]) -> Isolated
     ensures { λ r. ⌜ outcomeOf r (now (list .exit))
-        ≡ cond (roomFor (classRoom 1024 256) (now (file .entry)))
-        (isolateFile (now (file .entry)) attention (now (readings .entry)) (now (list .entry)))
+        ≡ cond (roomFor programLimits (classRoom middle) (now (file .entry)))
+        (isolateFile programLimits (now (file .entry)) attention (now (readings .entry)) (now (list .entry)))
         (refusedOutcome 43 0 (now (list .entry))) ⌝ }
 {
-    let mut keys = [0u64; 1024];
-    let mut kinds = [0u64; 1024];
-    let mut index = [0u16; 2080];
-    let mut names = [0u64; 256];
-    let mut wanted = [0u64; 256];
-    let mut places = [0u64; 256];
-    let mut node_index = [0u16; 544];
-    let mut child = [0u16; 16384];
-    let mut unread = [0u64; 256];
-    let mut words = [0u64; 1024];
-    let mut read = [0u8; 1024];
+    let mut keys = [0u64; MIDDLE_REGISTERS];
+    let mut kinds = [0u64; MIDDLE_REGISTERS];
+    let mut index = [0u16; MIDDLE_REGISTERS * 2 + 32];
+    let mut names = [0u64; MIDDLE_NODES];
+    let mut wanted = [0u64; MIDDLE_NODES];
+    let mut places = [0u64; MIDDLE_NODES];
+    let mut node_index = [0u16; MIDDLE_NODES * 2 + 32];
+    let mut child = [0u16; MIDDLE_NODES * 64];
+    let mut unread = [0u64; MIDDLE_NODES];
+    let mut words = [0u64; MIDDLE_REGISTERS];
+    let mut read = [0u8; MIDDLE_REGISTERS];
     isolate_in(
         file,
         attention,
@@ -241,16 +254,73 @@ fn isolate_full(file: &[u8], attention: u8, readings: &[u8], list: &mut [u8]) ->
     )
 }
 
-// Isolation of a file with the readings of a readings file. A readings file that does not fit is refused with 17, after the file's own refusals, 15 and 16. It takes the tables that most files of such a length fit, and larger ones where they are too short.
-pub fn isolate_file(file: &[u8], attention: u8, readings: &[u8], list: &mut [u8]) -> Isolated
-    ensures { λ r. ⌜ outcomeOf r (now (list .exit)) ≡ isolateFile (now (file .entry)) attention (now (readings .entry)) (now (list .entry)) ⌝ }
+// With those of the large one, which has room for every file of the program.
+fn isolate_large(file: &[u8], attention: u8, readings: &[u8], list: &mut [u8]) -> Isolated
+    ensures { λ r. ⌜ outcomeOf r (now (list .exit))
+        ≡ cond (roomFor programLimits (classRoom large) (now (file .entry)))
+        (isolateFile programLimits (now (file .entry)) attention (now (readings .entry)) (now (list .entry)))
+        (refusedOutcome 43 0 (now (list .entry))) ⌝ }
 {
-    if 256 < file.len() {
-        return isolate_full(file, attention, readings, list);
+    let mut keys = [0u64; LARGE_REGISTERS];
+    let mut kinds = [0u64; LARGE_REGISTERS];
+    let mut index = [0u16; LARGE_REGISTERS * 2 + 32];
+    let mut names = [0u64; LARGE_NODES];
+    let mut wanted = [0u64; LARGE_NODES];
+    let mut places = [0u64; LARGE_NODES];
+    let mut node_index = [0u16; LARGE_NODES * 2 + 32];
+    let mut child = [0u16; LARGE_NODES * 64];
+    let mut unread = [0u64; LARGE_NODES];
+    let mut words = [0u64; LARGE_REGISTERS];
+    let mut read = [0u8; LARGE_REGISTERS];
+    isolate_in(
+        file,
+        attention,
+        readings,
+        list,
+        &mut keys,
+        &mut kinds,
+        &mut index,
+        &mut names,
+        &mut wanted,
+        &mut places,
+        &mut node_index,
+        &mut child,
+        &mut unread,
+        &mut words,
+        &mut read,
+    )
+}
+
+// With the tables of a class that so many larger ones follow, and of a larger one where they are too short; the last one is never needed. It calls itself, so that no more tables are on the stack than one class has.
+fn isolate_with(
+    file: &[u8],
+    attention: u8,
+    readings: &[u8],
+    list: &mut [u8],
+    larger: usize,
+) -> Isolated
+    ensures { λ r. ⌜ outcomeOf r (now (list .exit)) ≡ isolateFile programLimits (now (file .entry)) attention (now (readings .entry)) (now (list .entry)) ⌝ }
+{
+    if larger < 2 {
+        return isolate_large(file, attention, readings, list);
+    }
+    if larger == 2 {
+        let i = isolate_middle(file, attention, readings, list);
+        if is_exact(i) {
+            return i;
+        }
+        return isolate_with(file, attention, readings, list, larger - 1);
     }
     let i = isolate_small(file, attention, readings, list);
     if is_exact(i) {
         return i;
     }
-    isolate_full(file, attention, readings, list)
+    isolate_with(file, attention, readings, list, larger - 1)
+}
+
+// Isolation of a file with the readings of a readings file, by the program's limits. A readings file that does not fit is refused with 17, after the file's own refusals, 15 and 16. It takes the tables that most files of such a length fit, and larger ones where they are too short.
+pub fn isolate_file(file: &[u8], attention: u8, readings: &[u8], list: &mut [u8]) -> Isolated
+    ensures { λ r. ⌜ outcomeOf r (now (list .exit)) ≡ isolateFile programLimits (now (file .entry)) attention (now (readings .entry)) (now (list .entry)) ⌝ }
+{
+    isolate_with(file, attention, readings, list, larger_classes(file.len()))
 }

@@ -4,6 +4,7 @@
 use crate::file::isolate_file;
 use format::number;
 use isolation::Isolated;
+use limits::classes::larger_classes;
 ghost use Prim.Native.Nat.{_+_, _*_, _≤_, _<_};
 ghost use mathlib.Core.Path.{_≡_};
 ghost use mathlib.Core.List.{[], _++_};
@@ -164,18 +165,39 @@ fn report_full(file: &[u8], attention: u8, readings: &[u8], text: &mut [u8]) -> 
     put_answer(text, a, &list)
 }
 
+// The text by a list of 128 records; 0 where they are not enough, and the text keeps its bytes.
+fn report_short(file: &[u8], attention: u8, readings: &[u8], text: &mut [u8]) -> usize
+    ensures { λ r. ⌜ (0 < r → Put (now (text .entry)) 0 (report (now (file .entry)) attention (now (readings .entry))) (now (text .exit)) r) ⌝ }
+    ensures { λ r. ⌜ (r ≡ 0 → now (text .exit) ≡ now (text .entry)) ⌝ }
+    ensures { λ r. ⌜ r ≤ 152000 ⌝ }
+{
+    let mut list = [0u8; 1024];
+    let a = isolate_file(file, attention, readings, &mut list);
+    if lacks_room(a) {
+        return 0;
+    }
+    put_answer(text, a, &list)
+}
+
+// The text by the short list for a file of the small class, and by the long one where it is not enough. It calls itself, so that a small file pays for the short one alone.
+fn report_with(file: &[u8], attention: u8, readings: &[u8], text: &mut [u8], larger: usize) -> usize
+    ensures { λ r. ⌜ Put (now (text .entry)) 0 (report (now (file .entry)) attention (now (readings .entry))) (now (text .exit)) r ⌝ }
+    ensures { λ r. ⌜ r ≤ 152000 ⌝ }
+{
+    if larger < 3 {
+        return report_full(file, attention, readings, text);
+    }
+    let n = report_short(file, attention, readings, text);
+    if 0 < n {
+        return n;
+    }
+    report_with(file, attention, readings, text, larger - 1)
+}
+
 // The text that the station prints for a chip data file, an attention type and a readings file, at the front of a lent text; and how many bytes it has, which are at most 152,000. A text that is too short for it holds its first part. A small file's records are first written to a list of 128.
 pub fn report(file: &[u8], attention: u8, readings: &[u8], text: &mut [u8]) -> usize
     ensures { λ r. ⌜ Put (now (text .entry)) 0 (report (now (file .entry)) attention (now (readings .entry))) (now (text .exit)) r ⌝ }
     ensures { λ r. ⌜ r ≤ 152000 ⌝ }
 {
-    if 256 < file.len() {
-        return report_full(file, attention, readings, text);
-    }
-    let mut list = [0u8; 1024];
-    let a = isolate_file(file, attention, readings, &mut list);
-    if lacks_room(a) {
-        return report_full(file, attention, readings, text);
-    }
-    put_answer(text, a, &list)
+    report_with(file, attention, readings, text, larger_classes(file.len()))
 }

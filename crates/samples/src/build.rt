@@ -101,6 +101,17 @@ pub fn put_node(file: &mut [u8], at: usize, id: u8, instances: u8) -> usize {
     place
 }
 
+// Nodes with IDs from 1 up, each with 128 instances: 1,284 bytes for each.
+pub fn put_nodes(file: &mut [u8], at: usize, nodes: u8) -> usize {
+    let mut place = at;
+    let mut id = 0;
+    while id < nodes {
+        id += 1;
+        place = put_node(file, place, id, 128);
+    }
+    place
+}
+
 // A node of type 1 with instance 0 alone, the reading of an instance of register 1 for its rule, and a count of children, which are to follow.
 pub fn put_parent(file: &mut [u8], at: usize, id: u8, reading: u8, children: u8) -> usize {
     let place = put_all(file, at, &[0, id, 1, 1]);

@@ -1,4 +1,4 @@
-// Runs the bench samples that are not in the proved table, and further ones for change request (iii), and prints what came out of each.
+// Runs the bench samples that are not in the proved table, and further ones for change requests (iii) and (x), and prints what came out of each.
 //
 // What each sample has to give is worked out from the rules and the layout in the comment above its function. Each function puts its file together in a lent buffer, from the bytes of B1 as far as they serve.
 use crate::build::part;
@@ -6,13 +6,14 @@ use crate::build::put;
 use crate::build::put_all;
 use crate::build::put_b1;
 use crate::build::put_child;
-use crate::build::put_node;
+use crate::build::put_nodes;
 use crate::build::put_nots;
 use crate::build::put_parent;
 use crate::build::put_register;
 use crate::build::put_registers;
 use crate::print::print_check;
 use crate::print::print_isolation;
+use crate::print::print_station;
 
 mod build;
 mod print;
@@ -98,66 +99,81 @@ fn level_17(file: &mut [u8]) {
     print_isolation(b"level 17", part(file, 0, n), 3, &[BIT_0], &[1]);
 }
 
-// B1 up to its register count, which stands at 17; registers 1 to 8, from 20 on, with instances 0 to 127, which are 1,024 register instances; then what is asked for; then one node, whose rule for type 3 is the reading of register 8, instance 127; and B1's root.
-fn put_many_registers(file: &mut [u8], count: u8, more: &[u8]) -> usize {
+// Zeros: a file that is longer than the limit is refused by 1, whose place is always 0, whatever its bytes are. One that is as long as the limit is read, and "CHIPDATA" does not stand at its front: 3 at 0. The limit is the library's for the library, and the program's for the station.
+fn lengths(zeros: &[u8]) {
+    print_check(b"1048576 bytes", part(zeros, 0, limits::BYTES));
+    print_check(b"1048577 bytes", zeros);
+    print_station(b"65536 bytes", part(zeros, 0, limits::PROGRAM_BYTES));
+    print_station(b"65537 bytes", part(zeros, 0, limits::PROGRAM_BYTES + 1));
+}
+
+// The same, with one zero more than the library's limit.
+fn lengths_of_zeros() {
+    let zeros = [0u8; limits::BYTES + 1];
+    lengths(&zeros);
+}
+
+// B1 up to its register count, which stands at 17; so many registers from 1 up, from 20 on, each with instances 0 to 127; then what is asked for; then one node, whose rule for type 3 is the reading of instance 127 of the last of these registers; and B1's root.
+fn put_many_registers(file: &mut [u8], registers: u8, count: u8, more: &[u8]) -> usize {
     let counted = put_b1(file, 0, 0, 17);
     let first = put_all(file, counted, &[0, 0, count]);
-    let ninth = put_registers(file, first, 8);
-    let nodes = put_all(file, ninth, more);
+    let after = put_registers(file, first, registers);
+    let nodes = put_all(file, after, more);
     let rule = put_b1(file, nodes, 31, 46);
-    let root = put_all(file, rule, &[1, 0, 0, 8, 127]);
+    let root = put_all(file, rule, &[1, 0, 0, registers, 127]);
     put_b1(file, root, 51, 60)
 }
 
-// 1,024 register instances: accepted. Bit 5 of the last reading is set, and no other bit of any, so the rule has bit 5 alone.
-fn registers_1024(file: &mut [u8]) {
-    let n = put_many_registers(file, 8, &[]);
-    let mut words = [0u64; 1024];
-    words[1023] = 0x0400000000000000;
-    print_check(b"1024 register instances", part(file, 0, n));
+// 8,192 register instances, 64 * 128: accepted. Bit 5 of the last reading is set, and no other bit of any, so the rule has bit 5 alone. 8,193: the first instance of register 65 is one too many. The 64 registers before it take 6 + 128 * 5 = 646 bytes each from 20 on, so register 65 begins at 20 + 64 * 646 = 41364, and its instance's number byte stands 6 bytes after that: 8 at 41370.
+fn register_instances(file: &mut [u8]) {
+    let n = put_many_registers(file, 64, 64, &[]);
+    let mut words = [0u64; 8192];
+    words[8191] = 0x0400000000000000;
+    print_check(b"8192 register instances", part(file, 0, n));
     print_isolation(
-        b"1024 register instances",
+        b"8192 register instances",
         part(file, 0, n),
         3,
         &words,
-        &[1; 1024],
+        &[1; 8192],
     );
+    let m = put_many_registers(file, 64, 65, &[0, 0, 65, 1, 0x80, 1, 0, 0, 0, 65, 0]);
+    print_check(b"8193 register instances", part(file, 0, m));
 }
 
-// 1,025 register instances: the first instance of register 9 is number 1,025. The eight registers before it take 646 bytes each from 20 on, so register 9 begins at 20 + 8 * 646 = 5188, and its instance's number byte stands 6 bytes after that: 8 at 5194.
-fn registers_1025(file: &mut [u8]) {
-    let n = put_many_registers(file, 9, &[0, 0, 9, 1, 0x80, 1, 0, 0, 0, 9, 0]);
-    print_isolation(
-        b"1025 register instances",
-        part(file, 0, n),
-        3,
-        &[0; 1025],
-        &[1; 1025],
-    );
+// The station with 1,024 register instances, 8 * 128: the file is accepted, and the empty readings file does not fit, so 17, whose place is always 0. With 1,025: register 9 begins at 20 + 8 * 646 = 5188, and its instance's number byte stands 6 bytes after that: 8 at 5194.
+fn station_register_instances(file: &mut [u8]) {
+    let n = put_many_registers(file, 8, 8, &[]);
+    print_station(b"1024 register instances", part(file, 0, n));
+    let m = put_many_registers(file, 8, 9, &[0, 0, 9, 1, 0x80, 1, 0, 0, 0, 9, 0]);
+    print_station(b"1025 register instances", part(file, 0, m));
 }
 
-// B1 up to its node count, which stands at 35; nodes 1 and 2, from 37 on, with instances 0 to 127, which are 256 node instances; then what is asked for; and a root for type 3 at the last of the 256, node 2, instance 127.
-fn put_many_nodes(file: &mut [u8], count: u8, more: &[u8]) -> usize {
+// B1 up to its node count, which stands at 35; so many nodes from 1 up, from 37 on, each with instances 0 to 127; then what is asked for; and a root for type 3 at instance 127 of the last of these nodes.
+fn put_many_nodes(file: &mut [u8], nodes: u8, count: u8, more: &[u8]) -> usize {
     let counted = put_b1(file, 0, 0, 35);
     let first = put_all(file, counted, &[0, count]);
-    let second = put_node(file, first, 1, 128);
-    let third = put_node(file, second, 2, 128);
-    let roots = put_all(file, third, more);
+    let after = put_nodes(file, first, nodes);
+    let roots = put_all(file, after, more);
     let root = put_b1(file, roots, 51, 56);
-    put_all(file, root, &[3, 0, 2, 127])
+    put_all(file, root, &[3, 0, nodes, 127])
 }
 
-// 256 node instances: accepted. The root's instance is the last of them, and its rule has bit 0.
-fn nodes_256(file: &mut [u8]) {
-    let n = put_many_nodes(file, 2, &[]);
-    print_check(b"256 node instances", part(file, 0, n));
-    print_isolation(b"256 node instances", part(file, 0, n), 3, &[BIT_0], &[1]);
+// 1,024 node instances, 8 * 128: accepted. The root's instance is the last of them, and its rule has bit 0. 1,025: the instance of node 9 is one too many. The eight nodes before it take 4 + 128 * 10 = 1284 bytes each from 37 on, so node 9 begins at 37 + 8 * 1284 = 10309, and its instance's number byte stands 4 bytes after that: 8 at 10313.
+fn node_instances(file: &mut [u8]) {
+    let n = put_many_nodes(file, 8, 8, &[]);
+    print_check(b"1024 node instances", part(file, 0, n));
+    print_isolation(b"1024 node instances", part(file, 0, n), 3, &[BIT_0], &[1]);
+    let m = put_many_nodes(file, 8, 9, &[0, 9, 1, 1, 0, 0, 1, 0, 3, 1, 0, 0, 1, 0]);
+    print_check(b"1025 node instances", part(file, 0, m));
 }
 
-// 257 node instances: the instance of node 3 is number 257. The two nodes before it take 4 + 128 * 10 = 1284 bytes each from 37 on, so node 3 begins at 37 + 2 * 1284 = 2605, and its instance's number byte stands 4 bytes after that: 8 at 2609.
-fn nodes_257(file: &mut [u8]) {
-    let n = put_many_nodes(file, 3, &[0, 3, 1, 1, 0, 0, 1, 0, 3, 1, 0, 0, 1, 0]);
-    print_isolation(b"257 node instances", part(file, 0, n), 3, &[BIT_0], &[1]);
+// The station with 256 node instances, 2 * 128: accepted, and 17 at 0, as above. With 257: node 3 begins at 37 + 2 * 1284 = 2605, and its instance's number byte stands 4 bytes after that: 8 at 2609.
+fn station_node_instances(file: &mut [u8]) {
+    let n = put_many_nodes(file, 2, 2, &[]);
+    print_station(b"256 node instances", part(file, 0, n));
+    let m = put_many_nodes(file, 2, 3, &[0, 3, 1, 1, 0, 0, 1, 0, 3, 1, 0, 0, 1, 0]);
+    print_station(b"257 node instances", part(file, 0, m));
 }
 
 // The nodes of the diamond. The rule of node n is the reading of register 1, instance n - 1. Node 1 has node 2 at bit 0 and node 3 at bit 1; nodes 2 and 3 have node 4 at bit 0; node 4 has no child.
@@ -249,7 +265,7 @@ fn unread_child(file: &mut [u8]) {
 }
 
 fn main() {
-    let mut space = [0u8; 8192];
+    let mut space = [0u8; 65536];
     let file: &mut [u8] = &mut space;
     type_6(file);
     first_59_bytes(file);
@@ -260,10 +276,11 @@ fn main() {
     shifts(file);
     level_16(file);
     level_17(file);
-    registers_1024(file);
-    registers_1025(file);
-    nodes_256(file);
-    nodes_257(file);
+    lengths_of_zeros();
+    register_instances(file);
+    station_register_instances(file);
+    node_instances(file);
+    station_node_instances(file);
     diamond(file);
     silent_children(file);
     silent_bottom(file);

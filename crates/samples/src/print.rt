@@ -13,6 +13,7 @@ use numbers::Width;
 use numbers::byte_at;
 use numbers::number_at;
 use reader::check;
+use report::report;
 
 // A name and a number.
 fn print_number(name: &[u8], n: u64) {
@@ -124,4 +125,14 @@ pub fn print_isolation(sample: &[u8], file: &[u8], attention: u8, words: &[u64],
         }
         Isolated::Refused(r) => print_refusal(sample, r),
     }
+}
+
+// The station's text for type 3 and an empty readings file, where it has one line of at most 64 bytes.
+pub fn print_station(sample: &[u8], file: &[u8]) {
+    let mut text = [0u8; 64];
+    let n = report(file, 3, &[], &mut text);
+    io::write_all(STDOUT_FILENO, b"station, ");
+    begin_line(sample);
+    io::write_all(STDOUT_FILENO, b" ");
+    io::write_all(STDOUT_FILENO, part(&text, 0, n));
 }

@@ -1,5 +1,5 @@
 -- What holds of an index over a table: every number that was entered is met on the way from where its search begins.
-use Prim.Native.Nat.{ℕ, suc, _*_, _-_, _/_, _%_, _≤_, _<_}
+use Prim.Native.Nat.{ℕ, suc, _+_, _*_, _-_, _/_, _%_, _≤_, _<_}
 use mathlib.Core.Bool.{cond}
 use mathlib.Core.List.{List}
 use mathlib.Core.Logic.{_⊎_}
@@ -7,6 +7,10 @@ use mathlib.Core.Path.{_≡_}
 use lib.Dec.{ltb}
 use lib.ListN.{length, getD}
 use lib.Bits.{bitAnd}
+
+-- The places of an index over up to n numbers: twice that, and 32 more.
+abbrev pub placesFor : ℕ → ℕ
+placesFor n = n * 2 + 32
 
 -- The place of an index of n places at which the search for x begins.
 unfoldable pub startOf : ℕ → ℕ → ℕ

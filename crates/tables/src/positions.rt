@@ -12,9 +12,9 @@ ghost use Rattle.tables.specs.Faults.{positionIn};
 ghost use Rattle.tables.specs.Indexed.{startOf, FreeFrom, Indexed, IndexOf};
 
 // The places of an index over as many register instances, and over as many node instances, as a file may have: twice that, and 32 more.
-pub const REGISTER_PLACES: usize = 2_080;
+pub const REGISTER_PLACES: usize = limits::REGISTER_INSTANCES * 2 + 32;
 
-pub const NODE_PLACES: usize = 544;
+pub const NODE_PLACES: usize = limits::NODE_INSTANCES * 2 + 32;
 
 // The place of an index of so many places at which the search for a number begins.
 fn start_of(places: usize, x: u64) -> usize

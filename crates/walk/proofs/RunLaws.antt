@@ -7,13 +7,13 @@ use native.Mathlib.Omega.{arith}
 use lib.Dec.{ltb}
 use Rattle.walk.specs.declared.Walked.{Walked}
 use Rattle.walk.specs.TableGraph.{tableSize, tableGraph}
-use Rattle.walk.specs.Marks.{firstWaiting, waits, started, stepped, finished}
+use Rattle.walk.specs.Marks.{markCount, firstWaiting, waits, started, stepped, finished}
 use Rattle.walk.specs.Steps.{StepCount}
 use Rattle.walk.proofs.Tables.{size-few, table-sound}
 use Rattle.walk.proofs.WalkLaws.{Walking, walked-start, walked-step, walked-less, walked-end, walked-steps, finished-nowhere, steps-nowhere, same-walked}
 use Rattle.walk.proofs.StepsLaws.{step-count}
 
-table-few : (act ch : List ℕ) → tableGraph act ch .size ≤ 256
+table-few : (act ch : List ℕ) → tableGraph act ch .size ≤ markCount
 unfolding tableGraph
 table-few act ch = size-few act .0
 

@@ -1,4 +1,4 @@
--- The step count of a walk over any sound graph of at most 256 node instances.
+-- The step count of a walk over any sound graph of at most as many node instances as there are marks.
 use mathlib.Core.Path.{_≡_, refl, sym, _∙_, ap, subst}
 use mathlib.Core.Bool.{true, false}
 use mathlib.Core.Logic.{_⊎_, ⊎-elim}
@@ -10,7 +10,7 @@ use borrow.Author.Tests.{ne-eqb, ltb-true, ltb-false}
 use Rattle.numbers.proofs.Bools.{either, clash, same?}
 use Rattle.graph.specs.Chains.{Graph, Sound}
 use Rattle.walk.specs.declared.Walked.{Walked}
-use Rattle.walk.specs.Marks.{firstWaiting, waits, started, finished}
+use Rattle.walk.specs.Marks.{markCount, firstWaiting, waits, started, finished}
 use Rattle.walk.specs.Steps.{marksAfter, StepCount}
 use Rattle.walk.proofs.First.{first-waits}
 use Rattle.walk.proofs.WalkLaws.{same-walked, Walking, walked-start, walked-step, walked-less, walked-end, walked-steps, started-at, length-started, finished-nowhere, steps-nowhere}
@@ -33,7 +33,7 @@ count-alone g root {w} {v} a b =
 abbrev Going : Graph → ℕ → ℕ → Type 0
 Going g root n = (k : ℕ) → k < n → waits g (marksAfter g root k) ≡ true
 
-module _ (g : Graph) (sound : Sound g) (few : g .size ≤ 256) (root : ℕ) where
+module _ (g : Graph) (sound : Sound g) (few : g .size ≤ markCount) (root : ℕ) where
   module _ (inside : root < g .size) where
     -- As long as one waits, each step keeps the walk's invariant.
     walking : (n : ℕ) → Going g root n → Walking g root (marksAfter g root n) n
@@ -70,7 +70,7 @@ module _ (g : Graph) (sound : Sound g) (few : g .size ≤ 256) (root : ℕ) wher
   none-waits l =
       ⊎-elim
       (λ e. let h : firstWaiting (started root) < g .size = ltb-true _ _ e in
-      let i : firstWaiting (started root) < 256 = omega arith in
+      let i : firstWaiting (started root) < markCount = omega arith in
       let o = first-waits (started root) (omega (arith, length-started root)) in
       let z = rw (ne-eqb (firstWaiting (started root)) root (λ d. omega arith)) at (started-at root (firstWaiting (started root)) i) in
       absurd (omega (arith, o, z)))

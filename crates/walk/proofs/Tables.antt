@@ -13,19 +13,12 @@ use Rattle.numbers.proofs.BitsLaws.{bit-out}
 use Rattle.numbers.proofs.Bools.{either, clash, and-left, and-right}
 use Rattle.graph.specs.Chains.{Sound}
 use Rattle.walk.specs.TableGraph.{tableSize, childAt, tableGraph}
+use Rattle.walk.specs.Marks.{markCount}
 use Rattle.walk.specs.Fold.{orElse}
 
-pub size-few : (act : List ℕ) → (tableSize act ≤ 256) × (tableSize act ≤ length act)
+pub size-few : (act : List ℕ) → (tableSize act ≤ markCount) × (tableSize act ≤ length act)
 unfolding tableSize
 size-few act = (omega arith, omega arith)
-
-pub size-short : (act : List ℕ) → length act < 256 → length act ≡ tableSize act
-unfolding tableSize
-size-short act h = omega arith
-
-pub size-long : (act : List ℕ) → 256 ≤ length act → 256 ≡ tableSize act
-unfolding tableSize
-size-long act h = omega arith
 
 -- The child of a place.
 

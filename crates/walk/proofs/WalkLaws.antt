@@ -16,7 +16,7 @@ use Rattle.graph.specs.Chains.{Graph, Sound, linked, reachedFrom, reachedCount}
 use Rattle.graph.proofs.BelowLaws.{count-one, count-same, count-le, count-zero}
 use Rattle.graph.proofs.ChainsLaws.{linked-inside, reached-in}
 use Rattle.walk.specs.declared.Walked.{Walked}
-use Rattle.walk.specs.Marks.{firstWaiting, markAfter, tabulate, stepped, waits, started, finished}
+use Rattle.walk.specs.Marks.{markCount, firstWaiting, markAfter, tabulate, stepped, waits, started, finished}
 use Rattle.walk.proofs.First.{first-waits, first-le}
 use Rattle.walk.proofs.Step.{length-tabulate, getD-tabulate}
 
@@ -33,7 +33,7 @@ pub reached-inside : (g : Graph) → Sound g → (root : ℕ) → root < g .size
 reached-inside g s root h = reached-fold g root (λ i. i < g .size) h (λ i j q l. linked-inside g s root i j l .1)
 
 pub record Walking (g : Graph) (root : ℕ) (m : List ℕ) (s : ℕ) : Type 0 where
-  pub sized : length m ≡ 256
+  pub sized : length m ≡ markCount
   pub room : g .size ≤ length m
   pub begun : getD m root 0 ≡ 0 → ⊥
   pub closed : (i j : ℕ) → getD m i 0 ≡ 2 → linked g i j ≡ true → getD m j 0 ≡ 0 → ⊥
@@ -184,7 +184,7 @@ module _ (g : Graph) (sound-graph : Sound g) (root : ℕ) (root-in : root < g .s
     unfolding finished
     walked-end =
         ext-getD 0 _ _ (w .sized ∙ sym (length-tabulate _ _))
-        (λ i h. let h′ : i < 256 = omega (arith, w .sized) in
+        (λ i h. let h′ : i < markCount = omega (arith, w .sized) in
         ⊎-elim (λ e. yes-at i e ∙ rw (lt-ltb _ _ root-in, e))
         (λ e. no-at i e ∙ rw (lt-ltb _ _ root-in, e, ne-eqb i root (λ d. clash (root-reached i d) e)))
         (either (reachedFrom g root i)) ∙ sym (getD-tabulate _ _ i h′))
@@ -197,13 +197,13 @@ module _ (g : Graph) (sound-graph : Sound g) (root : ℕ) (root-in : root < g .s
         ∙ count-same (g .size) (reachedFrom g root) (λ i. eqb (getD m i 0) 2)
         (λ i h. ⊎-elim (λ e. rw (yes-at i e, e)) (λ e. rw (no-at i e, e)) (either (reachedFrom g root i))))
 
-pub started-at : (root i : ℕ) → i < 256 → getD (started root) i 0 ≡ cond (eqb i root) 1 0
+pub started-at : (root i : ℕ) → i < markCount → getD (started root) i 0 ≡ cond (eqb i root) 1 0
 unfolding started
-started-at root i h = getD-tabulate 256 _ i h
+started-at root i h = getD-tabulate markCount _ i h
 
-pub length-started : (root : ℕ) → length (started root) ≡ 256
+pub length-started : (root : ℕ) → length (started root) ≡ markCount
 unfolding started
-length-started root = length-tabulate 256 _
+length-started root = length-tabulate markCount _
 
 -- The marks that the code makes, for any number of marks.
 abbrev startedIn : ℕ → ℕ → List ℕ
@@ -225,22 +225,22 @@ none-in n root h =
     (λ i l. let k : i < n = omega (arith, length-replicate {A = ℕ} n 0) in
     getD-replicate n i 0 0 k ∙ sym (getD-tabulate n _ i k ∙ rw (ne-eqb i root (λ d. omega arith))))
 
-pub started-made : (root : ℕ) → root < 256 → set (replicate 256 0) root 1 ≡ started root
+pub started-made : (root : ℕ) → root < markCount → set (replicate markCount 0) root 1 ≡ started root
 unfolding started
-started-made root h = made-in 256 root h
+started-made root h = made-in markCount root h
 
-pub started-none : (root : ℕ) → 256 ≤ root → replicate 256 0 ≡ started root
+pub started-none : (root : ℕ) → markCount ≤ root → replicate markCount 0 ≡ started root
 unfolding started
-started-none root h = none-in 256 root h
+started-none root h = none-in markCount root h
 
-module _ (g : Graph) (root : ℕ) (h : root < g .size) (few : g .size ≤ 256) where
+module _ (g : Graph) (root : ℕ) (h : root < g .size) (few : g .size ≤ markCount) where
   begin : (i : ℕ) → ((i ≡ root) × (getD (started root) i 0 ≡ 1)) ⊎ (getD (started root) i 0 ≡ 0)
   begin i =
       ⊎-elim
       (λ l. let e = started-at root i (ltb-true _ _ l) in
       ⊎-elim (λ d. inl (d, e ∙ rw (eq-eqb i root d))) (λ d. inr (e ∙ rw (ne-eqb i root d))) (same? i root))
       (λ l. inr (List·getD-eq-default (started root) 0 (rw length-started (ltb-false _ _ l))))
-      (either (ltb i 256))
+      (either (ltb i markCount))
 
   pub walked-start : Walking g root (started root) 0
   walked-start =

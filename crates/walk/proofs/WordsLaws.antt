@@ -14,9 +14,13 @@ use Rattle.numbers.specs.NextBit.{nextBit, withoutNext, withBit, Least}
 use Rattle.numbers.proofs.BitsLaws.{word-lt, word-ext, word-bits, bit-word, zero-bit}
 use Rattle.numbers.proofs.NextBitLaws.{next-law, next-in, without-bit, without-lt, with-bit, with-lt}
 use Rattle.numbers.proofs.Bools.{either, clash, same?}
-use Rattle.walk.specs.Marks.{firstWaiting, waitingWords}
+use Rattle.walk.specs.Marks.{markCount, firstWaiting, waitingWords}
 use Rattle.walk.proofs.First.{first-at, first-none, first-waits, first-le}
 use Rattle.walk.proofs.Step.{length-tabulate, getD-tabulate}
+
+-- One word for each 64 marks.
+abbrev pub wordCount : ℕ
+wordCount = markCount / 64
 
 pub words-length : (m : List ℕ) → length (waitingWords m) ≡ length m / 64
 unfolding waitingWords

@@ -4,10 +4,15 @@ use mathlib.Core.Bool.{Bool, cond, _&&_}
 use mathlib.Core.List.{List, [], _∷_}
 use lib.Dec.{ltb, eqb}
 use lib.ListN.{length, getD}
+use Rattle.limits.specs.Limits.{libraryLimits}
 use Rattle.numbers.specs.Bits.{wordOf}
 use Rattle.graph.specs.Chains.{Graph, linked, reachedFrom, reachedCount}
 use Rattle.walk.specs.declared.Walk.{Walk}
 use Rattle.walk.specs.declared.Walked.{Walked}
+
+-- "One mark for each of 1,024 node instances" (document 01, with the number that document 02 (x) moves).
+abbrev pub markCount : ℕ
+markCount = libraryLimits .nodeInstances
 
 -- f 0, .., f (n - 1).
 unfoldable pub tabulate : ℕ → (ℕ → ℕ) → List ℕ
@@ -44,13 +49,13 @@ stepWalk g w = stateOf (stepped g (w .marks))
 
 -- "The start (root waiting, others untouched)."
 unfoldable pub started : ℕ → List ℕ
-started root = tabulate 256 (λ i. cond (eqb i root) 1 0)
+started root = tabulate markCount (λ i. cond (eqb i root) 1 0)
 
 -- The marks where none of the graph's node instances waits any more: done is what is reached, and nothing else is touched; and the steps until then. A root that the
 -- graph does not have keeps its mark, and no step is taken.
 unfoldable pub finished : Graph → ℕ → Walked
 finished g root =
     record {
-      marks = tabulate 256 (λ i. cond (ltb root (g .size) && reachedFrom g root i) 2 (cond (eqb i root) 1 0));
+      marks = tabulate markCount (λ i. cond (ltb root (g .size) && reachedFrom g root i) 2 (cond (eqb i root) 1 0));
       steps = cond (ltb root (g .size)) (reachedCount g root) 0;
     }

@@ -7,10 +7,11 @@ use lib.Dec.{ltb}
 use lib.ListN.{length, getD}
 use Rattle.numbers.specs.Bits.{bitOf}
 use Rattle.graph.specs.Chains.{Graph}
+use Rattle.walk.specs.Marks.{markCount}
 
--- "One mark for each of 256 node instances": the walk knows no others.
+-- The walk knows the node instances for which it has a mark.
 unfoldable pub tableSize : List ℕ → ℕ
-tableSize act = min (length act) 256
+tableSize act = min (length act) markCount
 
 -- The child at a place of the table, if there is such a place and it holds a node instance.
 unfoldable pub childAt : ℕ → List ℕ → ℕ → Option ℕ

@@ -5,19 +5,22 @@ ghost use Prim.Native.Nat.{ℕ, _*_, _≤_, _<_};
 ghost use lib.Dec.{ltb};
 ghost use lib.ListN.{length};
 ghost use Rattle.walk.specs.TableGraph.{tableSize, childAt, tableGraph};
-ghost use Rattle.walk.specs.Marks.{firstWaiting, waitingWords, stateOf, stepWalk, started, finished};
+ghost use Rattle.walk.specs.Marks.{markCount, firstWaiting, waitingWords, stateOf, stepWalk, started, finished};
 ghost use Rattle.walk.specs.Steps.{StepCount};
 ghost use Rattle.walk.specs.Fold.{orElse, touchChild, touchedTo};
 
-// The walk's state: a mark for each of 256 node instances: 0 untouched, 1 waiting, 2 done; and the waiting ones as the bits of words, 64 in each.
+// The words of waiting bits, one for each 64 marks.
+const WORDS: usize = limits::NODE_INSTANCES / 64;
+
+// The walk's state: a mark for each of 1,024 node instances: 0 untouched, 1 waiting, 2 done; and the waiting ones as the bits of words, 64 in each.
 pub struct Walk {
-    pub marks: [u8; 256],
-    pub waiting: [u64; 4],
+    pub marks: [u8; limits::NODE_INSTANCES],
+    pub waiting: [u64; WORDS],
 }
 
 // A walk that has come to its end, and how many steps it took.
 pub struct Walked {
-    pub marks: [u8; 256],
+    pub marks: [u8; limits::NODE_INSTANCES],
     pub steps: usize,
 }
 
@@ -26,7 +29,11 @@ pub fn size(active: &[u64]) -> usize
     ensures { λ r. ⌜ r ≡ tableSize (now (active .entry)) ⌝ }
 {
     let n = active.len();
-    if n < 256 { n } else { 256 }
+    if n < limits::NODE_INSTANCES {
+        n
+    } else {
+        limits::NODE_INSTANCES
+    }
 }
 
 // The first waiting instance, or the number of marks. It looks at each word once, up to the first that has a bit.
@@ -80,7 +87,7 @@ fn touch(m: &mut [u8], words: &mut [u64], child: &[u16], n: usize, k: usize)
 
 // The untouched children of the instance k wait. It looks at each of its active bits once, and at no other.
 fn touch_all(m: &mut [u8], words: &mut [u64], active: &[u64], child: &[u16], n: usize, k: usize)
-    requires { ⌜ (n ≡ tableSize (now active)) × (length (now m) ≡ 256) × (k < n) × (length (now m) ≡ length (now words) * 64) ⌝ }
+    requires { ⌜ (n ≡ tableSize (now active)) × (length (now m) ≡ markCount) × (k < n) × (length (now m) ≡ length (now words) * 64) ⌝ }
     ensures { λ r. ⌜ now (m .exit) ≡ touchedTo (tableGraph (now (active .entry)) (now (child .entry))) (now (m .entry)) k 64 ⌝ }
     ensures { λ r. ⌜ (now (words .entry) ≡ waitingWords (now (m .entry)) → now (words .exit) ≡ waitingWords (now (m .exit))) ⌝ }
 {
@@ -97,9 +104,9 @@ impl Walk {
     pub fn start(root: usize) -> Walk
         ensures { λ r. ⌜ r ≡ stateOf (started root) ⌝ }
     {
-        let mut m = [0u8; 256];
-        let mut words = [0u64; 4];
-        if root < 256 {
+        let mut m = [0u8; limits::NODE_INSTANCES];
+        let mut words = [0u64; WORDS];
+        if root < limits::NODE_INSTANCES {
             m[root] = 1;
             let j = root / 64;
             let x = numbers::with_bit(words[j], (root % 64) as u8);

@@ -1,9 +1,10 @@
 //! Cases for all four functions: seeded, and as text.
 
 use std::fmt::Write;
+use std::sync::OnceLock;
 
 use reference::generate::{self, Random, Sizes, HIGHEST_NUMBER};
-use reference::{cases, hex, large, report, Accepted};
+use reference::{cases, hex, large, report, Accepted, Limits};
 
 use crate::proved::TEXT_BYTES;
 
@@ -30,7 +31,8 @@ impl Case {
         let random = &mut Random::new(start);
         let mut isolation = match random.below(100) {
             0..=12 => generate::colliding_case(random),
-            13..=44 => generate::case(random),
+            13..=42 => generate::case(random),
+            43 | 44 => generate::too_large_case(random),
             45 => generate::full_list_case(random),
             46..=89 => {
                 let aim = random.between(0, HIGHEST_NUMBER.into()) as u8;
@@ -177,15 +179,21 @@ fn near_b1(random: &mut Random) -> Vec<u8> {
     file
 }
 
+/// The file of a hand-made case, seldom a long one.
 fn hand_made(random: &mut Random) -> Vec<u8> {
-    let cases = cases::all();
-    random.pick(&cases).file.clone()
+    static CASES: OnceLock<Vec<cases::Case>> = OnceLock::new();
+    let cases = CASES.get_or_init(cases::all);
+    let mut file = &random.pick(cases).file;
+    while file.len() > Limits::PROGRAM.bytes && !random.one_in(8) {
+        file = &random.pick(cases).file;
+    }
+    file.clone()
 }
 
 /// A hand-made isolation call, mostly as it is.
 fn hand_made_call(random: &mut Random) -> generate::Case {
-    let calls = cases::isolations();
-    let call = random.pick(&calls);
+    static CALLS: OnceLock<Vec<cases::Isolation>> = OnceLock::new();
+    let call = random.pick(CALLS.get_or_init(cases::isolations));
     let mut case = generate::Case {
         file: call.file.clone(),
         attention_type: large::ATTENTION_TYPE,
@@ -202,14 +210,24 @@ fn hand_made_call(random: &mut Random) -> generate::Case {
 /// Bytes that begin as a file does, or not at all.
 fn any_bytes(random: &mut Random) -> Vec<u8> {
     let mut file = large::B1[..random.below(61)].to_vec();
-    let more = match random.below(8) {
-        0 => random.between(60_000, 70_000),
-        1 => random.below(3_000),
-        _ => random.below(80),
-    };
     let most = *random.pick(&[2, 6, 32, 256]);
-    file.extend((0..more).map(|_| random.below(most) as u8));
+    let length = match random.below(64) {
+        0 => length_near(random, Limits::LIBRARY.bytes),
+        1..=8 => length_near(random, Limits::PROGRAM.bytes),
+        9..=16 => file.len() + random.below(3_000),
+        _ => file.len() + random.below(80),
+    };
+    file.extend((file.len()..length).map(|_| random.below(most) as u8));
     file
+}
+
+/// A length of a file: as many bytes as there may be, one more, or nearly so many.
+fn length_near(random: &mut Random, bytes: usize) -> usize {
+    match random.below(4) {
+        0 => bytes,
+        1 => bytes + 1,
+        _ => random.between(bytes - 6_000, bytes + 4_000),
+    }
 }
 
 /// Now and then a type, readings or room that another refusal may precede.

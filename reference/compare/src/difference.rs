@@ -4,7 +4,7 @@
 use std::fmt;
 
 use reference::vectors::{address_of_any, expected_of_check, expected_of_pair};
-use reference::{bits_above_silent, check, isolate, report};
+use reference::{bits_above_silent, check, isolate, refusal, report};
 
 use crate::case::Case;
 use crate::proved::{self, ADDRESS_PLACES, CHECK_PLACES, ISOLATE_PLACES};
@@ -28,6 +28,15 @@ pub struct Difference {
     pub call: &'static str,
     pub proved: String,
     pub reference: String,
+}
+
+impl Outcomes {
+    /// The file is too large for the report and not for the other calls.
+    pub fn is_too_large_for_the_report_alone(&self) -> bool {
+        let is_too_large =
+            |number| matches!(number, refusal::FILE_TOO_LONG | refusal::TOO_MANY_INSTANCES);
+        is_too_large(self.report) && !is_too_large(self.check)
+    }
 }
 
 impl fmt::Display for Difference {
@@ -297,6 +306,7 @@ mod tests {
         let mut reported = [0; HIGHEST_NUMBER as usize + 1];
         let mut cut = 0;
         let mut above_silent = 0;
+        let mut too_large_for_the_report = [0; HIGHEST_NUMBER as usize + 1];
         for number in 0..2_000 {
             let case = Case::seeded(1, number);
             match compare(&case) {
@@ -304,6 +314,9 @@ mod tests {
                     reported[usize::from(outcomes.report)] += 1;
                     cut += usize::from(outcomes.cut);
                     above_silent += usize::from(outcomes.above_silent);
+                    let is_too_large = outcomes.is_too_large_for_the_report_alone();
+                    too_large_for_the_report[usize::from(outcomes.check)] +=
+                        usize::from(is_too_large);
                 }
                 Err(difference) => panic!("{difference}\n{}", case.to_text()),
             }
@@ -311,6 +324,11 @@ mod tests {
         assert!(reported.iter().all(|&cases| cases > 0), "{reported:?}");
         assert!(cut >= 100, "{cut}");
         assert!(above_silent >= 100, "{above_silent}");
+        // The file is accepted, or it has another fault.
+        for number in [0, 2, 3, 7, 11] {
+            let cases = too_large_for_the_report[number];
+            assert!(cases > 0, "{too_large_for_the_report:?}");
+        }
     }
 
     #[test]

@@ -3,7 +3,7 @@
 
 use super::captures::capture_unreadable;
 use super::damage::{any_field, damaged_file};
-use super::draft::{valid_file, Field, FieldKind, FieldMap, Shape};
+use super::draft::{long_file, valid_file, Field, FieldKind, FieldMap, Shape};
 use super::random::Random;
 use super::silent::silence_children;
 use super::{readings, room, Case};
@@ -11,8 +11,7 @@ use crate::checker::Accepted;
 use crate::isolation::{isolate, RECORD_BYTES};
 use crate::large;
 use crate::layout::{
-    EXPRESSION_AND, EXPRESSION_NOT, HIGHEST_BIT, MAX_EXPRESSION_LEVEL, MAX_FILE_BYTES,
-    MAX_NODE_INSTANCES, MAX_REGISTER_INSTANCES, READABLE,
+    Limits, EXPRESSION_AND, EXPRESSION_NOT, HIGHEST_BIT, MAX_EXPRESSION_LEVEL, READABLE,
 };
 use crate::readings::{READ, UNREAD};
 use crate::refusal;
@@ -28,7 +27,8 @@ pub enum Sizes {
     Any,
 }
 
-/// A case that is mostly refused by the number, or succeeds if it is 0.
+/// A case that is mostly refused by the number, or succeeds if it is 0. Most of
+/// those for numbers 1 and 8 are so for the station alone.
 pub fn aimed_case(random: &mut Random, number: u8, sizes: Sizes) -> Case {
     let shape = match sizes {
         Sizes::Small => Shape::small(random),
@@ -148,10 +148,15 @@ fn aimed_file(random: &mut Random, number: u8, map: &FieldMap) -> Vec<u8> {
     match number {
         refusal::FILE_TOO_LONG => {
             if random.one_in(8) {
-                return large::captures(random.between(1, 9));
+                return large::captures(Limits::PROGRAM, random.between(1, 9));
             }
-            let more = *random.pick(&[1, 1, 2, 9, 1_000, 65_536]);
-            bytes.resize(MAX_FILE_BYTES + more, random.byte());
+            let limits = match random.one_in(8) {
+                true => Limits::LIBRARY,
+                false => Limits::PROGRAM,
+            };
+            // One that is not too long has bytes after its end.
+            let more = *random.pick(&[0, 1, 1, 1, 2, 9, 1_000, 65_536]);
+            bytes.resize(limits.bytes + more, random.byte());
         }
         refusal::FIELD_CUT_SHORT => {
             let length = random.below(bytes.len());
@@ -201,7 +206,13 @@ fn aimed_file(random: &mut Random, number: u8, map: &FieldMap) -> Vec<u8> {
             }
         }
         refusal::DUPLICATE => repeat_an_element(random, map, &mut bytes),
-        refusal::TOO_MANY_INSTANCES => return too_many_instances(random),
+        refusal::TOO_MANY_INSTANCES => {
+            let limits = match random.one_in(3) {
+                true => Limits::LIBRARY,
+                false => Limits::PROGRAM,
+            };
+            return too_many_instances(random, limits);
+        }
         refusal::BAD_EXPRESSION => bad_expression(random, map, &mut bytes),
         refusal::BIT_TOO_HIGH => {
             if let Some(at) = field(random, &[FieldKind::ChildBit]) {
@@ -343,64 +354,173 @@ pub(super) fn turn_children_back(random: &mut Random, map: &FieldMap, bytes: &mu
     }
 }
 
-/// A file with register instance 1,025 or node instance 257 in it, sometimes
-/// cut or changed near that.
-fn too_many_instances(random: &mut Random) -> Vec<u8> {
+/// A file with one register instance or node instance too many, or a few, and
+/// where the first of these has its number.
+fn beyond_a_limit(random: &mut Random, limits: Limits) -> (FieldMap, Over) {
     let mut shape = Shape::small(random);
     shape.most_captures = 0;
     shape.most_expressions = 1;
     let over = *random.pick(&[1, 1, 2, 30]);
     let (kind, limit) = if random.one_in(3) {
-        shape.register_instances = MAX_REGISTER_INSTANCES + over;
-        (FieldKind::RegisterInstance, MAX_REGISTER_INSTANCES)
+        shape.register_instances = limits.register_instances + over;
+        (FieldKind::RegisterInstance, limits.register_instances)
     } else {
-        shape.node_instances = MAX_NODE_INSTANCES + over;
+        shape.node_instances = limits.node_instances + over;
         shape.most_children = random.below(2);
-        (FieldKind::NodeInstance, MAX_NODE_INSTANCES)
+        (FieldKind::NodeInstance, limits.node_instances)
     };
     let map = valid_file(random, &shape);
-    let mut bytes = map.bytes.clone();
-    let first_over = map.fields_of(kind).nth(limit).map_or(0, |field| field.at);
+    let place_of = |instance| {
+        map.fields_of(kind)
+            .nth(instance)
+            .map_or(0, |field| field.at)
+    };
+    let over = Over {
+        before: place_of(limit - 1),
+        first: place_of(limit),
+    };
+    (map, over)
+}
+
+/// Where the number bytes of the last instance within a limit and of the first
+/// one beyond it are.
+struct Over {
+    before: usize,
+    first: usize,
+}
+
+/// A file with an instance beyond the limit, sometimes cut or changed near that.
+fn too_many_instances(random: &mut Random, limits: Limits) -> Vec<u8> {
+    let (map, over) = beyond_a_limit(random, limits);
+    let mut bytes = map.bytes;
     match random.below(4) {
         // The number byte is the last one, or is missing.
-        0 => bytes.truncate(first_over + random.below(2)),
+        0 => bytes.truncate(over.first + random.below(2)),
         // It has the number before it.
-        1 => {
-            let before = map
-                .fields_of(kind)
-                .nth(limit - 1)
-                .map_or(0, |field| field.at);
-            bytes[first_over] = bytes[before];
-        }
+        1 => bytes[over.first] = bytes[over.before],
         _ => {}
     }
     bytes
 }
 
-/// A file at a limit, a few of them refused by 12 or 13, with readings that
-/// mostly fit it, as it is or with one byte changed, cut off or added.
+/// A file that is too large for the station and not for the library: by 8, or
+/// seldom by 1. The library accepts it or refuses it for a fault, mostly one
+/// behind the first instance that is too many for the station.
+pub fn too_large_case(random: &mut Random) -> Case {
+    let (map, first) = match random.one_in(40) {
+        true => (too_long_map(random), 0),
+        false => {
+            let (map, over) = beyond_a_limit(random, Limits::PROGRAM);
+            (map, over.first)
+        }
+    };
+    let with_root: Vec<u8> = map
+        .fields_of(FieldKind::RootAttention)
+        .map(|field| map.bytes[field.at])
+        .collect();
+    let instances = map.count(FieldKind::RegisterInstance);
+    let file = match random.below(16) {
+        0..=3 => map.bytes.clone(),
+        4 => damaged_file(random, &map),
+        5 | 6 => {
+            let mut bytes = map.bytes.clone();
+            bytes.truncate(random.between(first, map.bytes.len()));
+            bytes
+        }
+        7 => {
+            let number = *random.pick(&[refusal::ABSENT, refusal::UNFIT_REGISTER, refusal::CYCLE]);
+            aimed_file(random, number, &map)
+        }
+        _ => {
+            let number = *random.pick(&[
+                refusal::WRONG_KEYWORD,
+                refusal::WRONG_KEYWORD,
+                refusal::ZERO_COUNT,
+                refusal::UNKNOWN_VALUE,
+                refusal::DUPLICATE,
+                refusal::DUPLICATE,
+                refusal::DUPLICATE,
+                refusal::BAD_EXPRESSION,
+                refusal::BIT_TOO_HIGH,
+                refusal::BYTES_AFTER_END,
+                refusal::BYTES_AFTER_END,
+            ]);
+            let behind = FieldMap {
+                bytes: map.bytes.clone(),
+                fields: map
+                    .fields
+                    .iter()
+                    .copied()
+                    .filter(|field| field.at > first)
+                    .collect(),
+            };
+            aimed_file(random, number, &behind)
+        }
+    };
+    let (words, read) = readings(random, instances);
+    let mut case = Case {
+        attention_type: super::attention_type(random, &with_root),
+        file,
+        words,
+        read,
+        room: room(random),
+    };
+    if random.one_in(4) {
+        silence_children(random, &mut case);
+    }
+    case
+}
+
+/// A file that is longer than the station takes, with instances that are not too
+/// many for it.
+fn too_long_map(random: &mut Random) -> FieldMap {
+    let mut shape = Shape::large(random);
+    shape.node_instances = random.between(150, Limits::PROGRAM.node_instances);
+    shape.most_captures = random.between(120, 255);
+    long_file(random, &shape)
+}
+
+/// A file at a limit or near it, a few of them refused by 12 or 13, with readings
+/// that mostly fit it, as it is or with one byte changed, cut off or added. Seldom
+/// the limit is the library's.
 pub fn large_case(random: &mut Random) -> Case {
-    let mut file = match random.below(12) {
-        0 => large::register_instances(random.between(1_000, 1_030), *random.pick(&[1, 7, 255])),
-        1 => large::node_instances(random.between(250, 260)),
-        2 | 3 => large::captures(random.below(3)),
-        4 => large::deep_expressions(),
-        5 => large::children(random.between(1, large::MOST_CHILDREN), true),
-        6 => large::children(random.between(1, large::MOST_CHILDREN), false),
-        7 => large::children(1, random.one_in(2)),
-        8 => large::full_counts(),
-        9 => match random.below(2) {
-            0 => large::late_absence(),
-            _ => large::late_write_only(),
+    let limits = match random.one_in(50) {
+        true => Limits::LIBRARY,
+        false => Limits::PROGRAM,
+    };
+    case_at(random, limits)
+}
+
+/// The same with these limits.
+fn case_at(random: &mut Random, limits: Limits) -> Case {
+    let (registers, nodes) = (limits.register_instances, limits.node_instances);
+    let mut file = match random.below(14) {
+        0 => large::register_instances(
+            random.between(registers - 24, registers + 6),
+            *random.pick(&[1, 7, 255]),
+        ),
+        1 => large::node_instances(random.between(nodes - 6, nodes + 4)),
+        2 => large::short_node_instances(random.between(nodes - 1, nodes + 2), 255),
+        3 | 4 => large::captures(limits, random.below(3)),
+        5 => large::deep_expressions(limits),
+        6 => large::children(nodes, random.between(1, large::MOST_CHILDREN), true),
+        7 => large::children(nodes, random.between(1, large::MOST_CHILDREN), false),
+        8 => large::mixed_children(nodes, random.between(1, large::MOST_CHILDREN)),
+        9 => large::children(nodes, 1, random.one_in(2)),
+        10 => large::full_counts(),
+        11 => match random.below(3) {
+            0 => large::late_absence(limits),
+            1 => large::late_write_only(limits),
+            _ => large::late_cycle(nodes),
         },
         _ => {
-            let shape = Shape::at_a_limit(random);
+            let shape = Shape::at_a_limit(random, limits);
             valid_file(random, &shape).bytes
         }
     };
     let instances = match Accepted::read(&file) {
         Ok(accepted) => accepted.tree.register_instances.len(),
-        Err(_) => random.below(1_030),
+        Err(_) => random.below(registers + 6),
     };
     match random.below(8) {
         0 => {
@@ -423,7 +543,7 @@ pub fn large_case(random: &mut Random) -> Case {
     if random.one_in(2) {
         read.iter_mut().for_each(|byte| *byte = READ);
     }
-    let most = MAX_NODE_INSTANCES * 64 * RECORD_BYTES;
+    let most = nodes * 64 * RECORD_BYTES;
     Case {
         attention_type: match random.below(12) {
             0 => random.below(7) as u8,
@@ -454,9 +574,10 @@ fn all_or_nothing(random: &mut Random, count: usize) -> Vec<u64> {
     words
 }
 
-/// A row of 256 node instances with about as many bits to list as the station's
+/// A row of as many node instances as the station takes, with about as many bits to list as the station's
 /// list holds records. Half of the time those behind some place show nothing.
 pub fn full_list_case(random: &mut Random) -> Case {
+    let nodes = Limits::PROGRAM.node_instances;
     let records = match random.below(4) {
         0 => LIST_RECORDS,
         1 => LIST_RECORDS + 1,
@@ -464,15 +585,15 @@ pub fn full_list_case(random: &mut Random) -> Case {
     };
     let backward = random.one_in(2);
     let showing = match random.below(2) {
-        0 => MAX_NODE_INSTANCES,
-        _ => random.between(80, MAX_NODE_INSTANCES - 1),
+        0 => nodes,
+        _ => random.between(80, nodes - 1),
     };
     let place = |rank: usize| match backward {
-        true => MAX_NODE_INSTANCES - 1 - rank,
+        true => nodes - 1 - rank,
         false => rank,
     };
     // Bit 0 has the child. It is listed for the last one that shows something.
-    let mut words = vec![0; MAX_NODE_INSTANCES];
+    let mut words = vec![0; nodes];
     for rank in 0..showing {
         words[place(rank)] = 1 << HIGHEST_BIT;
     }
@@ -486,10 +607,10 @@ pub fn full_list_case(random: &mut Random) -> Case {
         }
     }
     Case {
-        file: large::children(1, backward),
+        file: large::children(nodes, 1, backward),
         attention_type: large::ATTENTION_TYPE,
         words,
-        read: vec![READ; MAX_NODE_INSTANCES],
+        read: vec![READ; nodes],
         room: records * RECORD_BYTES - random.below(2) + random.below(9),
     }
 }
@@ -497,30 +618,70 @@ pub fn full_list_case(random: &mut Random) -> Case {
 #[cfg(test)]
 mod tests {
     use super::*;
-    use crate::isolation::bits_above_silent;
+    use crate::isolation::{bits_above_silent, isolate_within};
 
-    /// At least a fifth of the cases for a number are refused by it.
+    /// The number of the outcome of isolation.
+    fn outcome(case: &Case, limits: Limits) -> u8 {
+        let mut list = vec![0; case.room];
+        let answer = isolate_within(
+            &case.file,
+            limits,
+            case.attention_type,
+            &case.words,
+            &case.read,
+            &mut list,
+        );
+        answer.map_or_else(|refusal| refusal.number, |_| 0)
+    }
+
+    /// At least a fifth of the cases for a number are refused by it; for numbers 1
+    /// and 8 that is so by the station's limits, and by the library's it is fewer.
     #[test]
     fn cases_meet_their_aim() {
         let mut random = Random::new(19);
         for number in 0..=HIGHEST_NUMBER {
             for sizes in [Sizes::Small, Sizes::Any] {
-                let mut met = 0;
+                let mut met = [0; 2];
                 for _ in 0..150 {
                     let case = aimed_case(&mut random, number, sizes);
-                    let mut list = vec![0; case.room];
-                    let answer = isolate(
-                        &case.file,
-                        case.attention_type,
-                        &case.words,
-                        &case.read,
-                        &mut list,
-                    );
-                    met += usize::from(number == answer.map_or_else(|r| r.number, |_| 0));
+                    for (met, limits) in met.iter_mut().zip([Limits::PROGRAM, Limits::LIBRARY]) {
+                        *met += usize::from(number == outcome(&case, limits));
+                    }
                 }
-                assert!(met >= 30, "{met} of 150 for {number} {sizes:?}");
+                let fewest = match number {
+                    refusal::FILE_TOO_LONG => [100, 8],
+                    refusal::TOO_MANY_INSTANCES => [100, 30],
+                    _ => [30, 30],
+                };
+                let are_enough = met[0] >= fewest[0] && met[1] >= fewest[1];
+                assert!(are_enough, "{met:?} of 150 for {number} {sizes:?}");
             }
         }
+    }
+
+    /// The station says 8, or seldom 1, and the library mostly a fault behind that
+    /// place or none.
+    #[test]
+    fn too_large_for_the_station() {
+        let mut random = Random::new(21);
+        let mut seen = [0; HIGHEST_NUMBER as usize + 1];
+        let mut seen_by_station = seen;
+        for _ in 0..3_000 {
+            let case = too_large_case(&mut random);
+            let by_library = outcome(&case, Limits::LIBRARY);
+            let by_station = outcome(&case, Limits::PROGRAM);
+            seen_by_station[usize::from(by_station)] += 1;
+            if by_station == refusal::TOO_MANY_INSTANCES {
+                seen[usize::from(by_library)] += 1;
+            }
+        }
+        assert!(seen_by_station[8] > 2_500, "{seen_by_station:?}");
+        assert!(seen_by_station[1] > 20, "{seen_by_station:?}");
+        for number in [0, 2, 3, 5, 6, 7, 9, 11, 12, 13, 14, 15, 16, 17, 18, 19] {
+            assert!(seen[number] >= 8, "{number} {seen:?}");
+        }
+        assert!(seen[2] > 300 && seen[3] > 100, "{seen:?}");
+        assert!(seen[7] > 150 && seen[11] > 150, "{seen:?}");
     }
 
     #[test]

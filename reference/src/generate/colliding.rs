@@ -9,15 +9,16 @@ use super::aimed::turn_children_back;
 use super::captures::{capture_a_closed, close_a_captured};
 use super::damage::damaged_file;
 use super::draft::{file_with, split, Field, FieldKind, FieldMap, Node, Register, Shape};
-use super::places::{Crowd, Places};
+use super::places::{Crowd, Places, CLASSES};
 use super::random::Random;
 use super::silent::silence_children;
 use super::{attention_type, readings, room, Case};
-use crate::layout::{MAX_NODE_INSTANCES, MAX_REGISTER_INSTANCES, READABLE, WRITABLE};
+use crate::layout::{Limits, READABLE, WRITABLE};
 
 /// Registers or nodes.
 #[derive(Clone, Copy)]
 struct Kind {
+    /// Of the tables that are for as many of them as the file has.
     places: Places,
     id_bits: usize,
     id_field: FieldKind,
@@ -25,18 +26,41 @@ struct Kind {
 }
 
 const REGISTERS: Kind = Kind {
-    places: Places::OF_REGISTERS,
+    places: Places::of(Limits::LIBRARY.register_instances),
     id_bits: 24,
     id_field: FieldKind::RegisterId,
     instance_field: FieldKind::RegisterInstance,
 };
 
 const NODES: Kind = Kind {
-    places: Places::OF_NODES,
+    places: Places::of(Limits::LIBRARY.node_instances),
     id_bits: 16,
     id_field: FieldKind::NodeId,
     instance_field: FieldKind::NodeInstance,
 };
+
+/// Registers and nodes of a file with so many instances.
+fn kinds(register_instances: usize, node_instances: usize) -> [Kind; 2] {
+    let (of_registers, of_nodes) = Places::of_class(register_instances, node_instances);
+    [
+        Kind {
+            places: of_registers,
+            ..REGISTERS
+        },
+        Kind {
+            places: of_nodes,
+            ..NODES
+        },
+    ]
+}
+
+/// Registers and nodes of the file.
+fn kinds_of(map: &FieldMap) -> [Kind; 2] {
+    kinds(
+        map.count(FieldKind::RegisterInstance),
+        map.count(FieldKind::NodeInstance),
+    )
+}
 
 impl Kind {
     fn ids(self) -> u64 {
@@ -60,8 +84,9 @@ pub fn colliding_case(random: &mut Random) -> Case {
 /// collide, or those of nodes, or both.
 pub fn colliding_file(random: &mut Random) -> FieldMap {
     let (register_instances, node_instances) = sizes(random);
-    let registers = registers(random, register_instances);
-    let nodes = nodes(random, node_instances);
+    let [of_registers, of_nodes] = kinds(register_instances, node_instances);
+    let registers = registers(random, of_registers, register_instances);
+    let nodes = nodes(random, of_nodes, node_instances);
     // So many captures and children in the whole file, about.
     let captures = *random.pick(&[0, 40, 200, 400]);
     let children = *random.pick(&[0, 40, 100, 300]);
@@ -80,13 +105,23 @@ pub fn colliding_file(random: &mut Random) -> FieldMap {
 
 /// How many register instances and node instances a file has.
 fn sizes(random: &mut Random) -> (usize, usize) {
-    let full_registers = MAX_REGISTER_INSTANCES + random.below(2);
-    let full_nodes = MAX_NODE_INSTANCES + random.below(2);
+    let limits = match random.below(16) {
+        0 => Limits::LIBRARY,
+        _ => Limits::PROGRAM,
+    };
+    let full_registers = limits.register_instances + random.below(2);
+    let full_nodes = limits.node_instances + random.below(2);
     match random.below(64) {
         0 | 1 => (1, 1),
         2 => (full_registers, size(random)),
         3 | 4 => (size(random), full_nodes),
-        5 => (MAX_REGISTER_INSTANCES, full_nodes),
+        5 => (limits.register_instances, full_nodes),
+        6 => {
+            // About as many as one of the tables is for.
+            let (registers, nodes) = *random.pick(&CLASSES[..2]);
+            let near = |random: &mut Random, count: usize| random.between(count - 1, count + 1);
+            (near(random, registers), near(random, nodes))
+        }
         _ => (size(random), size(random)),
     }
 }
@@ -94,17 +129,17 @@ fn sizes(random: &mut Random) -> (usize, usize) {
 /// From the last starting place on a table has 33 places.
 fn size(random: &mut Random) -> usize {
     match random.below(8) {
-        0..=2 => random.between(1, 8),
+        0..=2 => random.between(1, 9),
         3 | 4 => random.between(32, 35),
         5 | 6 => random.between(9, 40),
         _ => random.between(60, 70),
     }
 }
 
-fn registers(random: &mut Random, instances: usize) -> Vec<Register> {
+fn registers(random: &mut Random, kind: Kind, instances: usize) -> Vec<Register> {
     let only_type = random.one_in(2).then(|| random.between(1, 2) as u8);
     let closed_in_ten = *random.pick(&[0, 1, 3]);
-    let named = named(random, REGISTERS, instances);
+    let named = named(random, kind, instances);
     let register = |(id, numbers)| Register {
         id: id as u32,
         register_type: only_type.unwrap_or(random.between(1, 2) as u8),
@@ -117,9 +152,9 @@ fn registers(random: &mut Random, instances: usize) -> Vec<Register> {
     named.into_iter().map(register).collect()
 }
 
-fn nodes(random: &mut Random, instances: usize) -> Vec<Node> {
+fn nodes(random: &mut Random, kind: Kind, instances: usize) -> Vec<Node> {
     let only_type = random.one_in(2).then(|| random.between(1, 2) as u8);
-    let named = named(random, NODES, instances);
+    let named = named(random, kind, instances);
     let node = |(id, numbers)| Node {
         id: id as u16,
         register_type: only_type.unwrap_or(random.between(1, 2) as u8),
@@ -135,7 +170,7 @@ fn named(random: &mut Random, kind: Kind, instances: usize) -> Vec<(u64, Vec<u8>
             // Names collide; some IDs have another instance beside that.
             let mut names: HashSet<u64> = HashSet::new();
             let beside = *random.pick(&[0, 0, 1, 3]);
-            for name in colliding(random, kind.places, instances, kind.names()) {
+            for name in colliding(random, kind, instances, kind.names()) {
                 if random.below(10) < beside {
                     names.insert(name ^ 1 << random.below(8));
                 }
@@ -157,7 +192,7 @@ fn named(random: &mut Random, kind: Kind, instances: usize) -> Vec<(u64, Vec<u8>
                 0 => vec![1; instances],
                 _ => split(random, instances),
             };
-            let ids = colliding(random, kind.places, counts.len(), kind.ids());
+            let ids = colliding(random, kind, counts.len(), kind.ids());
             let numbers = counts.iter().map(|&count| random.different_bytes(count));
             ids.into_iter().zip(numbers).collect()
         }
@@ -175,10 +210,15 @@ fn named(random: &mut Random, kind: Kind, instances: usize) -> Vec<(u64, Vec<u8>
 }
 
 /// So many numbers below `bound` of which many start at the same places.
-fn colliding(random: &mut Random, places: Places, count: usize, bound: u64) -> Vec<u64> {
-    let places = match random.below(4) {
-        0 => places.at_most(random.between(3, 9)),
-        _ => places,
+fn colliding(random: &mut Random, kind: Kind, count: usize, bound: u64) -> Vec<u64> {
+    // Numbers that collide in a table collide in those that are smaller too.
+    let places = match random.below(8) {
+        0 => kind.places.at_most(random.between(3, 9)),
+        1..=4 => kind.places,
+        _ => match kind.id_field {
+            FieldKind::RegisterId => REGISTERS.places,
+            _ => NODES.places,
+        },
     };
     let starts = starts(random, places, count, bound);
     places.numbers(random, count, bound, starts)
@@ -273,7 +313,7 @@ pub fn case_of(random: &mut Random, map: &FieldMap) -> Case {
 
 /// Gives a register or a node the ID of one before it.
 fn repeat_an_id(random: &mut Random, map: &FieldMap, bytes: &mut [u8]) {
-    let mut kinds = [REGISTERS, NODES];
+    let mut kinds = kinds_of(map);
     random.shuffle(&mut kinds);
     for kind in kinds {
         let count = map.count(kind.id_field);
@@ -289,7 +329,7 @@ fn repeat_an_id(random: &mut Random, map: &FieldMap, bytes: &mut [u8]) {
 /// Gives a register or a node the ID of one before it that has no place left.
 /// False if there is none.
 fn repeat_one_without_place(random: &mut Random, map: &FieldMap, bytes: &mut [u8]) -> bool {
-    let mut kinds = [REGISTERS, NODES];
+    let mut kinds = kinds_of(map);
     random.shuffle(&mut kinds);
     for kind in kinds {
         let places = kind.places.put(&ids(map, kind));
@@ -341,9 +381,10 @@ fn rename(random: &mut Random, map: &FieldMap, bytes: &mut [u8]) {
         return;
     }
     let field = fields[place_in(random, fields.len())];
+    let [registers, nodes] = kinds_of(map);
     let kind = match field.size {
-        3 => REGISTERS,
-        _ => NODES,
+        3 => registers,
+        _ => nodes,
     };
     // The instance stands behind the ID.
     let own = &mut bytes[field.at..field.at + field.size + 1];
@@ -396,7 +437,9 @@ fn like_but_for_upper_bits(random: &mut Random, kind: Kind, name: u64) -> u64 {
 
 /// The ID and number of a register instance near this one. It may be absent.
 pub fn name_like(random: &mut Random, id: u32, instance: u8) -> (u32, u8) {
-    let name = near(random, REGISTERS, u64::from(id) << 8 | u64::from(instance));
+    let (registers, nodes) = *random.pick(&CLASSES);
+    let [kind, _] = kinds(registers, nodes);
+    let name = near(random, kind, u64::from(id) << 8 | u64::from(instance));
     ((name >> 8) as u32, name as u8)
 }
 
@@ -422,14 +465,24 @@ fn names(map: &FieldMap, kind: Kind) -> Vec<u64> {
     names
 }
 
-/// How crowded tables are with the register IDs of a file, the names of its
-/// register instances, its node IDs and the names of its node instances.
+/// How crowded tables for as many instances as a file has are with its register
+/// IDs, the names of its register instances, its node IDs and the names of its
+/// node instances.
 pub fn crowds(map: &FieldMap) -> [Crowd; 4] {
+    crowds_in(map, kinds_of(map))
+}
+
+/// The same in tables for as many instances as there may be.
+pub fn crowds_of_the_largest(map: &FieldMap) -> [Crowd; 4] {
+    crowds_in(map, [REGISTERS, NODES])
+}
+
+fn crowds_in(map: &FieldMap, [registers, nodes]: [Kind; 2]) -> [Crowd; 4] {
     [
-        REGISTERS.places.crowd(&ids(map, REGISTERS)),
-        REGISTERS.places.crowd(&names(map, REGISTERS)),
-        NODES.places.crowd(&ids(map, NODES)),
-        NODES.places.crowd(&names(map, NODES)),
+        registers.places.crowd(&ids(map, registers)),
+        registers.places.crowd(&names(map, registers)),
+        nodes.places.crowd(&ids(map, nodes)),
+        nodes.places.crowd(&names(map, nodes)),
     ]
 }
 
@@ -451,6 +504,8 @@ mod tests {
     fn files_collide() {
         let mut random = Random::new(31);
         let mut collided = 0;
+        // Of those in tables that are for as many as there may be.
+        let mut in_the_largest = [[0; 4]; 2];
         let mut alike = [0; 4];
         let mut last_with_place = [0; 4];
         let mut first_without_place = [0; 4];
@@ -467,8 +522,21 @@ mod tests {
                 first_without_place[kind] += usize::from(crowd.without_place == 1);
                 without_place[kind] += usize::from(crowd.without_place > 1);
             }
+            for (kind, crowd) in crowds_of_the_largest(&map).iter().enumerate() {
+                in_the_largest[0][kind] += usize::from(many(crowd));
+                in_the_largest[1][kind] += usize::from(crowd.without_place > 0);
+            }
         }
         assert!(collided > FILES * 2 / 3, "{collided}");
+        let [alike_there, without_place_there] = in_the_largest;
+        assert!(
+            alike_there.iter().all(|&n| n > FILES / 20),
+            "{in_the_largest:?}"
+        );
+        assert!(
+            without_place_there.iter().all(|&n| n > 20),
+            "{in_the_largest:?}"
+        );
         assert!(alike.iter().all(|&n| n > FILES / 10), "{alike:?}");
         let at_the_end = [last_with_place, first_without_place, without_place];
         assert!(
@@ -482,32 +550,50 @@ mod tests {
     fn files_of_every_size() {
         let mut random = Random::new(32);
         let mut one = 0;
-        let mut full = [0; 2];
-        let mut over = [0; 2];
+        // Of the station and of the library.
+        let mut full = [[0; 2]; 2];
+        let mut over = [[0; 2]; 2];
+        let mut of_class = [0; CLASSES.len()];
         let mut longest = 0;
         for _ in 0..FILES {
             let map = colliding_file(&mut random);
             let counts = [REGISTERS, NODES].map(|kind| map.count(kind.instance_field));
-            let limits = [MAX_REGISTER_INSTANCES, MAX_NODE_INSTANCES];
             one += usize::from(counts == [1, 1]);
-            for kind in 0..2 {
-                full[kind] += usize::from(counts[kind] == limits[kind]);
-                over[kind] += usize::from(counts[kind] == limits[kind] + 1);
+            for (of, limits) in [Limits::PROGRAM, Limits::LIBRARY].into_iter().enumerate() {
+                let most = [limits.register_instances, limits.node_instances];
+                for kind in 0..2 {
+                    full[of][kind] += usize::from(counts[kind] == most[kind]);
+                    over[of][kind] += usize::from(counts[kind] == most[kind] + 1);
+                }
+                let is_over = (0..2).any(|kind| counts[kind] > most[kind]);
+                let expected = if map.bytes.len() > limits.bytes {
+                    refusal::FILE_TOO_LONG
+                } else if is_over {
+                    refusal::TOO_MANY_INSTANCES
+                } else {
+                    0
+                };
+                let answer = checker::check_within(&map.bytes, limits);
+                let number = answer.map_or_else(|refusal| refusal.number, |_| 0);
+                assert_eq!(number, expected);
             }
-            let is_over = (0..2).any(|kind| counts[kind] > limits[kind]);
-            let expected = if is_over {
-                refusal::TOO_MANY_INSTANCES
-            } else {
-                0
-            };
-            assert_eq!(number(&map.bytes), expected);
+            let has_room =
+                |&(registers, nodes): &(usize, usize)| counts[0] <= registers && counts[1] <= nodes;
+            if let Some(class) = CLASSES.iter().position(has_room) {
+                of_class[class] += 1;
+            }
             longest = longest.max(map.bytes.len());
         }
         assert!(one >= 50, "{one}");
         assert!(
-            [full, over].iter().flatten().all(|&n| n >= 20),
+            [full[0], over[0]].iter().flatten().all(|&n| n >= 20),
             "{full:?} {over:?}"
         );
+        assert!(
+            [full[1], over[1]].iter().flatten().all(|&n| n >= 1),
+            "{full:?} {over:?}"
+        );
+        assert!(of_class.iter().all(|&n| n >= 40), "{of_class:?}");
         assert!(longest > 20_000, "{longest}");
     }
 
@@ -607,7 +693,7 @@ mod tests {
         for kind in [REGISTERS, NODES] {
             let mut seen = [0; 6];
             for _ in 0..200 {
-                let names = colliding(&mut random, kind.places, 40, kind.names());
+                let names = colliding(&mut random, kind, 40, kind.names());
                 let own = names[0];
                 for _ in 0..10 {
                     let name = other_name(&mut random, kind, &names, own);

@@ -3,10 +3,7 @@
 use super::captures::{capture_a_closed, close_a_captured};
 use super::draft::{valid_file, Field, FieldKind, FieldMap, Shape};
 use super::random::Random;
-use crate::layout::{
-    EXPRESSION_NOT, MAX_EXPRESSION_LEVEL, MAX_NODE_INSTANCES, MAX_REGISTER_INSTANCES, READABLE,
-    WRITABLE,
-};
+use crate::layout::{Limits, EXPRESSION_NOT, MAX_EXPRESSION_LEVEL, READABLE, WRITABLE};
 
 const COUNTS: [FieldKind; 10] = [
     FieldKind::RegisterCount,
@@ -272,7 +269,7 @@ fn change_field(random: &mut Random, map: &FieldMap, bytes: &mut [u8]) {
 }
 
 /// A file that is valid but for one register or node instance too many, or a
-/// few.
+/// few, mostly for the station alone.
 fn over_a_limit(random: &mut Random) -> Vec<u8> {
     let mut shape = Shape::small(random);
     let over = if random.one_in(2) {
@@ -280,10 +277,14 @@ fn over_a_limit(random: &mut Random) -> Vec<u8> {
     } else {
         random.between(1, 40)
     };
+    let limits = match random.one_in(8) {
+        true => Limits::LIBRARY,
+        false => Limits::PROGRAM,
+    };
     if random.one_in(2) {
-        shape.register_instances = MAX_REGISTER_INSTANCES + over;
+        shape.register_instances = limits.register_instances + over;
     } else {
-        shape.node_instances = MAX_NODE_INSTANCES + over;
+        shape.node_instances = limits.node_instances + over;
     }
     let mut bytes = valid_file(random, &shape).bytes;
     if random.one_in(4) {

@@ -4,10 +4,9 @@ use std::collections::HashSet;
 
 use super::random::Random;
 use crate::layout::{
-    CHIP_KEYWORD, EXPRESSION_AND, EXPRESSION_CONSTANT, EXPRESSION_NOT, EXPRESSION_OR,
+    Limits, CHIP_KEYWORD, EXPRESSION_AND, EXPRESSION_CONSTANT, EXPRESSION_NOT, EXPRESSION_OR,
     EXPRESSION_REGISTER, EXPRESSION_SHIFT_LEFT, EXPRESSION_SHIFT_RIGHT, MAX_EXPRESSION_LEVEL,
-    MAX_FILE_BYTES, MAX_NODE_INSTANCES, MAX_REGISTER_INSTANCES, NODE_KEYWORD, READABLE,
-    REGISTER_KEYWORD, ROOT_KEYWORD, VERSION, WRITABLE,
+    NODE_KEYWORD, READABLE, REGISTER_KEYWORD, ROOT_KEYWORD, VERSION, WRITABLE,
 };
 
 /// What a field of the file holds.
@@ -124,7 +123,8 @@ impl Shape {
             0..=59 => Self::small(random),
             60..=89 => Self::middle(random),
             90..=97 => Self::large(random),
-            _ => Self::at_a_limit(random),
+            _ if random.one_in(6) => Self::at_a_limit(random, Limits::LIBRARY),
+            _ => Self::at_a_limit(random, Limits::PROGRAM),
         }
     }
 
@@ -167,18 +167,33 @@ impl Shape {
         }
     }
 
-    /// As many register or node instances as a file may have.
-    pub fn at_a_limit(random: &mut Random) -> Self {
+    /// As many register or node instances as a file may have, now and then one
+    /// less.
+    pub fn at_a_limit(random: &mut Random, limits: Limits) -> Self {
         let mut shape = Self::small(random);
-        match random.below(3) {
-            0 => shape.register_instances = MAX_REGISTER_INSTANCES,
-            1 => shape.node_instances = MAX_NODE_INSTANCES,
-            _ => {
-                shape.register_instances = MAX_REGISTER_INSTANCES;
-                shape.node_instances = MAX_NODE_INSTANCES;
-            }
+        let of_three = random.below(3);
+        if of_three != 1 {
+            shape.register_instances = limits.register_instances - usize::from(random.one_in(8));
+        }
+        if of_three != 0 {
+            shape.node_instances = limits.node_instances - usize::from(random.one_in(8));
         }
         shape
+    }
+
+    /// How long a file may be for the limits that its instances are within.
+    fn most_bytes(&self) -> usize {
+        let Limits {
+            bytes,
+            register_instances,
+            node_instances,
+        } = Limits::PROGRAM;
+        let is_within =
+            self.register_instances <= register_instances && self.node_instances <= node_instances;
+        match is_within {
+            true => bytes,
+            false => Limits::LIBRARY.bytes,
+        }
     }
 
     fn poorer(&self) -> Self {
@@ -193,31 +208,45 @@ impl Shape {
 }
 
 /// A file of the shape that meets every rule of the checker, if the shape's
-/// instances are within the limits. Captures, children and expressions become
-/// fewer where the file would be too long.
+/// instances are within the library's limits; and of the station's checker, if
+/// they are within the station's. Captures, children and expressions become
+/// fewer where the file would be too long for these.
 pub fn valid_file(random: &mut Random, shape: &Shape) -> FieldMap {
-    short_enough(shape, |shape| Draft::new(random, shape).written())
+    short_enough(shape, shape.most_bytes(), |shape| {
+        Draft::new(random, shape).written()
+    })
 }
 
-/// The same with these registers and nodes, which have as many instances as the
-/// shape.
+/// The same, and only for the library it may not be too long.
+pub(super) fn long_file(random: &mut Random, shape: &Shape) -> FieldMap {
+    short_enough(shape, Limits::LIBRARY.bytes, |shape| {
+        Draft::new(random, shape).written()
+    })
+}
+
+/// The same as [`valid_file`] with these registers and nodes, which have as many
+/// instances as the shape.
 pub(super) fn file_with(
     random: &mut Random,
     shape: &Shape,
     registers: &[Register],
     nodes: &[Node],
 ) -> FieldMap {
-    short_enough(shape, |shape| {
+    short_enough(shape, shape.most_bytes(), |shape| {
         Draft::with(random, shape, registers.to_vec(), nodes.to_vec()).written()
     })
 }
 
-/// The first file that is not too long, of the shape or a poorer one.
-fn short_enough(shape: &Shape, mut written: impl FnMut(Shape) -> FieldMap) -> FieldMap {
+/// The first file that has not more bytes, of the shape or a poorer one.
+fn short_enough(
+    shape: &Shape,
+    most_bytes: usize,
+    mut written: impl FnMut(Shape) -> FieldMap,
+) -> FieldMap {
     let mut shape = *shape;
     loop {
         let map = written(shape);
-        if map.bytes.len() <= MAX_FILE_BYTES {
+        if map.bytes.len() <= most_bytes {
             return map;
         }
         shape = shape.poorer();

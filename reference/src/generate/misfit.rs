@@ -1,7 +1,7 @@
 //! Readings files that do not fit.
 
 use super::random::Random;
-use crate::layout::MAX_REGISTER_INSTANCES;
+use crate::layout::Limits;
 use crate::readings::{RECORD_BYTES, UNREAD};
 
 /// What is wrong with a readings file.
@@ -13,7 +13,7 @@ pub enum Misfit {
     RecordMore,
     AnyLength,
     Empty,
-    /// Longer than that of any chip data file.
+    /// Longer than that of any chip data file that the station takes.
     TooLong,
     WrongId,
     WrongInstance,
@@ -64,7 +64,8 @@ impl Misfit {
             Misfit::Empty => bytes.clear(),
             Misfit::TooLong => {
                 let more = *random.pick(&[1, RECORD_BYTES, 5_000, 65_536]);
-                lengthen(random, bytes, MAX_REGISTER_INSTANCES * RECORD_BYTES + more);
+                let most = Limits::PROGRAM.register_instances * RECORD_BYTES;
+                lengthen(random, bytes, most + more);
             }
             Misfit::Swapped => swap_records(random, bytes),
             _ => {

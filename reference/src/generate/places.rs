@@ -4,6 +4,7 @@ use std::collections::HashSet;
 use std::ops::Range;
 
 use super::random::Random;
+use crate::layout::Limits;
 
 /// A table that is searched for a number from the number's starting place on,
 /// place by place up to its end: a power of two of starting places, and 32
@@ -14,13 +15,47 @@ pub struct Places {
     starts: usize,
 }
 
-impl Places {
-    /// For 1,024 registers or register instances: 2,080 places.
-    pub const OF_REGISTERS: Places = Places { starts: 2_048 };
-    /// For 256 nodes or node instances: 544 places.
-    pub const OF_NODES: Places = Places { starts: 512 };
+/// The tables come in sizes, for so many register instances and node instances.
+/// Those of the last are for as many as there may be.
+pub const CLASSES: [(usize, usize); 4] = [
+    (32, 8),
+    (256, 64),
+    (
+        Limits::PROGRAM.register_instances,
+        Limits::PROGRAM.node_instances,
+    ),
+    (
+        Limits::LIBRARY.register_instances,
+        Limits::LIBRARY.node_instances,
+    ),
+];
 
+/// What numbers are multiplied by.
+const FACTOR: u64 = 0x9E37_79B1;
+/// The lower bits of the product that do not count.
+const DROPPED: u32 = 16;
+
+impl Places {
     const BEHIND: usize = 32;
+
+    /// For so many instances, a power of two.
+    pub const fn of(instances: usize) -> Self {
+        assert!(instances.is_power_of_two());
+        Places {
+            starts: 2 * instances,
+        }
+    }
+
+    /// Those of registers and of nodes, of the first class that has room for so
+    /// many instances of each, or of the last one.
+    pub fn of_class(register_instances: usize, node_instances: usize) -> (Self, Self) {
+        let has_room = |&&(registers, nodes): &&(usize, usize)| {
+            register_instances <= registers && node_instances <= nodes
+        };
+        let class = CLASSES.iter().find(has_room);
+        let (registers, nodes) = *class.unwrap_or(&CLASSES[CLASSES.len() - 1]);
+        (Places::of(registers), Places::of(nodes))
+    }
 
     /// One with fewer starting places, if the power is low enough.
     pub fn at_most(self, power: usize) -> Self {
@@ -41,12 +76,12 @@ impl Places {
 
     /// Where the search for a number starts.
     pub fn start(self, number: u64) -> usize {
-        let mixed = ((number & 0xFFFF_FFFF) * 0x9E37_79B1) >> 16;
+        let mixed = ((number & 0xFFFF_FFFF) * FACTOR) >> DROPPED;
         mixed as usize & (self.starts - 1)
     }
 
-    /// So many different numbers below `bound` that start in `starts`. There
-    /// are to be twice as many of them.
+    /// So many different numbers below `bound`, at most 2^32, that start in
+    /// `starts`. There are to be twice as many of them.
     pub fn numbers(
         self,
         random: &mut Random,
@@ -57,13 +92,26 @@ impl Places {
         let mut numbers = Vec::with_capacity(count);
         let mut taken = HashSet::with_capacity(count);
         while numbers.len() < count {
-            let mut number = random.next() % bound;
-            while !starts.contains(&self.start(number)) || !taken.insert(number) {
-                number = (number + 1) % bound;
+            let start = random.between(starts.start, starts.end - 1);
+            let number = self.any_number(random, start, bound);
+            if number < bound && taken.insert(number) {
+                numbers.push(number);
             }
-            numbers.push(number);
         }
         numbers
+    }
+
+    /// A number that starts there, below `bound` if that is not too low. The
+    /// starting place says which some bits of the number's product are, and these
+    /// with those below them say which the lower bits of the number are.
+    fn any_number(self, random: &mut Random, start: usize, bound: u64) -> u64 {
+        let bits = DROPPED + self.starts.trailing_zeros();
+        let below = |bits: u32| (1 << bits) - 1;
+        let word = random.next();
+        let product = (start as u64) << DROPPED | word & below(DROPPED);
+        let lower = product.wrapping_mul(inverse(FACTOR)) & below(bits);
+        let upper = (word >> 32) % (bound >> bits).max(1);
+        upper << bits | lower
     }
 
     /// The place of each number if it gets the first free one from its starting
@@ -95,6 +143,18 @@ impl Places {
     }
 }
 
+/// The word whose product with an odd one ends in 63 zeros and a 1.
+const fn inverse(odd: u64) -> u64 {
+    // Right in three bits, then in twice as many each time.
+    let mut inverse = odd;
+    let mut bits = 3;
+    while bits < u64::BITS {
+        inverse = inverse.wrapping_mul(2u64.wrapping_sub(odd.wrapping_mul(inverse)));
+        bits *= 2;
+    }
+    inverse
+}
+
 /// How crowded a table is.
 #[derive(Clone, Copy, Debug, Default, PartialEq, Eq)]
 pub struct Crowd {
@@ -111,22 +171,46 @@ mod tests {
 
     #[test]
     fn starting_places() {
+        let registers = Places::of(1_024);
+        let nodes = Places::of(256);
         // 1 * 0x9E3779B1 / 2^16 is 0x9E37.
-        assert_eq!(Places::OF_REGISTERS.start(1), 0x9E37 & 2_047);
-        assert_eq!(Places::OF_NODES.start(1), 0x9E37 & 511);
-        assert_eq!(Places::OF_NODES.start(1 << 32 | 1), 0x9E37 & 511);
+        assert_eq!(registers.start(1), 0x9E37 & 2_047);
+        assert_eq!(nodes.start(1), 0x9E37 & 511);
+        assert_eq!(nodes.start(1 << 32 | 1), 0x9E37 & 511);
+        assert_eq!(Places::of(8_192).start(1), 0x9E37 & 16_383);
         // 0xFFFFFFFF * 0x9E3779B1 is 0x9E3779B061C8864F.
-        assert_eq!(Places::OF_REGISTERS.start(0xFFFF_FFFF), 0x61C8 & 2_047);
-        assert_eq!(Places::OF_REGISTERS.count(), 2_080);
-        assert_eq!(Places::OF_NODES.count(), 544);
+        assert_eq!(registers.start(0xFFFF_FFFF), 0x61C8 & 2_047);
+        let counts = CLASSES.map(|(registers, nodes)| {
+            let places = Places::of_class(registers, nodes);
+            (places.0.count(), places.1.count())
+        });
+        assert_eq!(
+            counts,
+            [(96, 48), (544, 160), (2_080, 544), (16_416, 2_080)]
+        );
+        // The class has room for both.
+        let class = |registers, nodes| Places::of_class(registers, nodes).0.count();
+        assert_eq!([class(32, 9), class(33, 8), class(1, 1)], [544, 544, 96]);
+        assert_eq!([class(1, 257), class(1_025, 1)], [16_416, 16_416]);
+        assert_eq!(class(8_193, 1_025), 16_416);
+    }
+
+    #[test]
+    fn inverses() {
+        for odd in [1, 3, FACTOR, u64::MAX] {
+            assert_eq!(odd.wrapping_mul(inverse(odd)), 1);
+        }
     }
 
     #[test]
     fn numbers_collide() {
         let mut random = Random::new(30);
         for (places, bounds) in [
-            (Places::OF_REGISTERS, [1 << 24, 1 << 32]),
-            (Places::OF_NODES, [1 << 16, 1 << 24]),
+            (Places::of(32), [1 << 24, 1 << 32]),
+            (Places::of(1_024), [1 << 24, 1 << 32]),
+            (Places::of(8_192), [1 << 24, 1 << 32]),
+            (Places::of(8), [1 << 16, 1 << 24]),
+            (Places::of(256), [1 << 16, 1 << 24]),
         ] {
             for bound in bounds {
                 let last = places.starts() - 1;
@@ -138,7 +222,8 @@ mod tests {
                     let crowd = places.crowd(&numbers);
                     assert_eq!(crowd.most_at_one_start, 64);
                     // From the last start on there are 33 places.
-                    let without_place = if start == last { 31 } else { 0 };
+                    let places_left = places.count() - start;
+                    let without_place = 64usize.saturating_sub(places_left);
                     assert_eq!(crowd.without_place, without_place);
                     assert_eq!(crowd.longest_search, 64 - without_place);
                     // They collide in smaller tables too.
@@ -154,7 +239,7 @@ mod tests {
     #[test]
     fn numbers_without_collision() {
         let few: Vec<u64> = (1..=8).collect();
-        let crowd = Places::OF_REGISTERS.crowd(&few);
+        let crowd = Places::of(1_024).crowd(&few);
         assert_eq!((crowd.most_at_one_start, crowd.without_place), (1, 0));
     }
 }

@@ -57,7 +57,7 @@ mod tests {
     use crate::expression::bit_is_set;
     use crate::generate::{aimed_case, case, Sizes};
     use crate::isolation::{isolate, RECORD_BYTES};
-    use crate::layout::MAX_NODE_INSTANCES;
+    use crate::layout::Limits;
     use crate::tree::{Child, NodeName};
 
     /// Cases with a listed bit whose child shows nothing, by what the children
@@ -79,7 +79,7 @@ mod tests {
 
     impl AboveSilent {
         fn add(&mut self, case: &Case) {
-            let mut list = vec![[0; RECORD_BYTES]; 64 * MAX_NODE_INSTANCES];
+            let mut list = vec![[0; RECORD_BYTES]; 64 * Limits::LIBRARY.node_instances];
             let answer = isolate(
                 &case.file,
                 case.attention_type,

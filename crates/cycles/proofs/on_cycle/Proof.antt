@@ -2,16 +2,17 @@ use mathlib.Core.Path.{_≡_, ap}
 use native.Mathlib.Omega.{arith}
 use lib.ListN.{length}
 use borrow.Author.Needs.{needs}
+use Rattle.limits.specs.Limits.{libraryLimits}
 use Rattle.cycles.proofs.TableLaws.{part-length, cycle-found}
 use Rattle.cycles.proofs.on_cycle.Statement.{statement}
 use Rattle.cycles.proofs.on_cycle.Tie as tie
 
 slice-aggregate-run : tie.Need-slice-aggregate-run
-slice-aggregate-run c = part-length _ 256 18446744073709551615 (c .before .before .pre .0)
+slice-aggregate-run c = part-length _ (libraryLimits .nodeInstances) 18446744073709551615 (c .before .before .pre .0)
 
 closes-requires : tie.Need-closes-requires
 closes-requires c κs =
-    let l : length (c .before .before .run .result .marks) ≡ 256 = search needs in
+    let l : length (c .before .before .run .result .marks) ≡ libraryLimits .nodeInstances = search needs in
     let s = c .before .before .before .before .before in
     (s .pre .0, omega arith, s .pre .1)
 

@@ -12,20 +12,20 @@ use Rattle.links.proofs.rule_place.Tie as tie
 
 returns : tie.Need-returns
 returns c =
-    λ total before i m e.
-    let r = rules-after _ _ (sym (ap instanceHeadParsed (c .before .before .before .before .before .before .top .given .1)) ∙ c .before .before .before .before .before .before .before .before .instance-head-at .ensures [] (tells-none 1)) total before i m e
+    λ limit total before i m e.
+    let r = rules-after _ _ (sym (ap instanceHeadParsed (c .before .before .before .before .before .before .top .given .1)) ∙ c .before .before .before .before .before .before .before .before .instance-head-at .ensures [] (tells-none 1)) limit total before i m e
     (sym (ap nextParsed (c .before .before .c .given .1)) ∙ c .before .before .before .before .captures-at .ensures) in
     c .find-rule .ensures (i .rules) (r .0) (r .1)
 
 returns-2 : tie.Need-returns-2
 returns-2 c =
-    λ total before i m e.
-    let r = captures-after _ _ (sym (ap instanceHeadParsed (c .before .before .before .before .top .given .1)) ∙ c .before .before .before .before .before .before .instance-head-at .ensures [] (tells-none 1)) total before i m e in
+    λ limit total before i m e.
+    let r = captures-after _ _ (sym (ap instanceHeadParsed (c .before .before .before .before .top .given .1)) ∙ c .before .before .before .before .before .before .instance-head-at .ensures [] (tells-none 1)) limit total before i m e in
     unmade _ (sym (ap nextParsed (c .enum-told .given .1)) ∙ c .before .before .captures-at .ensures) (r .1)
 
 returns-3 : tie.Need-returns-3
 returns-3 c =
-    λ total before i m e. not-refused (sym (ap instanceHeadParsed (c .enum-told2 .given .1)) ∙ c .before .before .instance-head-at .ensures [] (tells-none 1)) (instance-parts _ _ total before e .read)
+    λ limit total before i m e. not-refused (sym (ap instanceHeadParsed (c .enum-told2 .given .1)) ∙ c .before .before .instance-head-at .ensures [] (tells-none 1)) (instance-parts _ _ limit total before e .read)
 
 pub rule-place-spec : {M : Type 1} → statement M
 rule-place-spec =

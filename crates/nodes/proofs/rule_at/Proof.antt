@@ -1,6 +1,6 @@
 use mathlib.Core.Path.{refl}
 use borrow.Author.Needs.{needs}
-use Rattle.format.specs.Limits.{levels}
+use Rattle.limits.specs.Limits.{levels}
 use Rattle.fields.proofs.Steps.{steps, forgetting, byte-then′, twice, forgot-makes}
 use Rattle.nodes.proofs.NodeLaws.{node-laws, rule-told}
 use Rattle.nodes.proofs.rule_at.Statement.{statement}

@@ -20,10 +20,10 @@ returns c =
     let p4 = p3 .before .before in
     let p5 = p4 .before .before in
     let o = sym (ap instanceHeadParsed (p4 .top .given .1)) ∙ p5 .instance-head-at .ensures [] (tells-none 1) in (
-      λ j k total before i m e. instance-children _ _ _ _ _ _ o total before i m e
+      λ j k limit total before i m e. instance-children _ _ _ _ _ _ o limit total before i m e
           (p3 .capture-faults .ensures j) (ap nextParsed (p2 .c .given .1))
           (p1 .rule-faults .ensures j) (ap nextParsed (p0 .d .given .1)) (f .child-faults .ensures .0 k),
-      λ after r j k total before i m e. instance-row _ _ _ _ _ _ o total before i m e
+      λ after r j k limit total before i m e. instance-row _ _ _ _ _ _ o limit total before i m e
           (p3 .capture-faults .ensures j) (ap nextParsed (p2 .c .given .1))
           (p1 .rule-faults .ensures j) (ap nextParsed (p0 .d .given .1)) _ _ (w .clear .ensures) (f .child-faults .ensures .1 after r k),
     )
@@ -34,25 +34,25 @@ returns-2 c =
     let p2 = p1 .before .before in
     let p3 = p2 .before .before in
     let p4 = p3 .before .before in (
-      λ j k total before i m e. instance-rules-no _ _ _ _ _ _ (sym (ap instanceHeadParsed (p3 .top .given .1)) ∙ p4 .instance-head-at .ensures [] (tells-none 1)) total before i m e
+      λ j k limit total before i m e. instance-rules-no _ _ _ _ _ _ (sym (ap instanceHeadParsed (p3 .top .given .1)) ∙ p4 .instance-head-at .ensures [] (tells-none 1)) limit total before i m e
           (p2 .capture-faults .ensures j) (ap nextParsed (p1 .c .given .1))
           (c .before .before .before .rule-faults .ensures j) (ap nextParsed (c .before .d2 .given .1)),
-      λ after r j k total before i m e. never (ap nextParsed r),
+      λ after r j k limit total before i m e. never (ap nextParsed r),
     )
 
 returns-3 : tie.Need-returns-3
 returns-3 c =
     let p1 = c .before .before .before .before .before in
     let p2 = p1 .before .before in (
-      λ j k total before i m e. instance-captures-no _ _ _ _ _ _ (sym (ap instanceHeadParsed (p1 .top .given .1)) ∙ p2 .instance-head-at .ensures [] (tells-none 1)) total before i m e
+      λ j k limit total before i m e. instance-captures-no _ _ _ _ _ _ (sym (ap instanceHeadParsed (p1 .top .given .1)) ∙ p2 .instance-head-at .ensures [] (tells-none 1)) limit total before i m e
           (c .before .before .before .capture-faults .ensures j) (ap nextParsed (c .before .c2 .given .1)),
-      λ after r j k total before i m e. never (ap nextParsed r),
+      λ after r j k limit total before i m e. never (ap nextParsed r),
     )
 
 returns-4 : tie.Need-returns-4
 returns-4 c = (
-  λ j k total before i m e. instance-there _ _ (sym (ap instanceHeadParsed (c .before .top2 .given .1)) ∙ c .before .before .before .instance-head-at .ensures [] (tells-none 1)) total before i m e,
-  λ after r j k total before i m e. never (ap nextParsed r),
+  λ j k limit total before i m e. instance-there _ _ (sym (ap instanceHeadParsed (c .before .top2 .given .1)) ∙ c .before .before .before .instance-head-at .ensures [] (tells-none 1)) limit total before i m e,
+  λ after r j k limit total before i m e. never (ap nextParsed r),
 )
 
 pub instance-faults-spec : {M : Type 1} → statement M

@@ -19,14 +19,14 @@ use Rattle.register_rows.proofs.marked_at.Statement.{statement}
 use Rattle.register_rows.proofs.marked_at.Tie as tie
 
 abbrev Inv-loop : tie.InvT-loop
-Inv-loop s at kind id code count total keys₀ kinds₀ seen₀ begun₀ left₀ place₀ keys kinds seen begun left place =
-    Row (registerInstanceAt s true total kind) registerNumber (rowAt (registerInstanceAt s true total kind) count [] at) total begun seen left place
+Inv-loop s at kind id code count total limit keys₀ kinds₀ seen₀ begun₀ left₀ place₀ keys kinds seen begun left place =
+    Row (registerInstanceAt limit s true total kind) registerNumber (rowAt (registerInstanceAt limit s true total kind) count [] at) total begun seen left place
     × Sized (pair keys₀ kinds₀) (pair keys kinds)
-    × Filling (registerInstanceAt s true total kind) (λ i. rowOf id code (i .number) (i .place) ∷ []) (λ b x. Unit {0}) (rowAt (registerInstanceAt s true total kind) count [] at)
+    × Filling (registerInstanceAt limit s true total kind) (λ i. rowOf id code (i .number) (i .place) ∷ []) (λ b x. Unit {0}) (rowAt (registerInstanceAt limit s true total kind) count [] at)
     (pair keys₀ kinds₀) total (pair keys kinds) begun left place
 
 abbrev μ-loop : tie.MeasureT-loop
-μ-loop s at kind id code count total keys₀ kinds₀ seen₀ begun₀ left₀ place₀ keys kinds seen begun left place = left
+μ-loop s at kind id code count total limit keys₀ kinds₀ seen₀ begun₀ left₀ place₀ keys kinds seen begun left place = left
 
 loop-holds : tie.Need-loop-holds Inv-loop μ-loop
 loop-holds c = (row-begin _ _ _ _ _, record { keys = refl; kinds = refl; places = refl }, filling-begin _ _ _ _ _ _ _ tt)
@@ -47,7 +47,7 @@ add-begun : tie.Need-add-begun Inv-loop μ-loop
 add-begun c =
     let d = c .before .before .before .before .before .before .before .before in
     let l = d .before .before .before .before .before .before .loop .inv .0 in
-    let h = instance-room registerNumber _ _ _ (l .before) _ (sym (ap byteParsed (d .before .i .given .1)) ∙ d .before .before .before .register-instance-at .ensures _ _ (l .marks) (l .counted)) in
+    let h = instance-room _ registerNumber _ _ _ (l .before) _ (sym (ap byteParsed (d .before .i .given .1)) ∙ d .before .before .before .register-instance-at .ensures _ _ (l .marks) (l .counted)) in
     omega (arith, h, l .counted)
 
 loop-again : tie.Need-loop-again Inv-loop μ-loop
@@ -57,7 +57,7 @@ loop-again c =
     let r = l .0 in
     let z = sym (ap byteParsed (d .before .i .given .1)) ∙ d .before .before .before .register-instance-at .ensures _ _ (r .marks) (r .counted) in
     let t = d .before .before .before .before .before .loop-test .taken in
-    let i = register-instance-is _ _ _ _ (r .before) z in
+    let i = register-instance-is _ _ _ _ _ (r .before) z in
     let e = c .before .before .before .before .put-pair .ensures (i .0) in (
       row-next _ _ r z t (omega arith),
       sized-put _ _ _ _ (l .1) e,

@@ -16,7 +16,7 @@ returns c =
     let t = x .before .before .before .before .before .before in
     let h = t .before .before in (
       head-then _ _ _ (h .register-rest-at .ensures) (t .top .given .1) (twice _ _ _ (row-counted _ _ _ _ (x .instances-at .ensures .0) (c .before .rest .given .1) refl)),
-      after-filled _ _ _ _ _ (sym (ap registerHeadParsed (t .top .given .1)) ∙ h .register-rest-at .ensures) (x .instances-at .ensures .1),
+      after-filled _ _ _ _ _ _ (sym (ap registerHeadParsed (t .top .given .1)) ∙ h .register-rest-at .ensures) (x .instances-at .ensures .1),
     )
 
 returns-2 : tie.Need-returns-2

@@ -13,16 +13,16 @@ returns c =
     let i = r .before .before .before .before in
     let n = i .before .before in
     let g = sym (ap numberParsed (i .i .given .1)) in (
-      λ x before k e. register-made _ _ before e registerElement (g ∙ id-told _ _ _ k (n .register-id-at .ensures x)) (r .register-after .ensures .0),
-      λ x before k e b m d. r .register-after .ensures .1 b m (register-rest _ _ before e (g ∙ id-told _ _ _ k (n .register-id-at .ensures x)) b m d),
+      λ x before k e. register-made _ _ _ before e registerElement (g ∙ id-told _ _ _ k (n .register-id-at .ensures x)) (r .register-after .ensures .0),
+      λ x before k e b m d. r .register-after .ensures .1 b m (register-rest _ _ _ before e (g ∙ id-told _ _ _ k (n .register-id-at .ensures x)) b m d),
     )
 
 returns-2 : tie.Need-returns-2
 returns-2 c =
     let n = c .before .before .before in
     let g = sym (ap numberParsed (c .before .i2 .given .1)) in (
-      λ x before k e. register-cut _ _ before e registerElement (g ∙ id-told _ _ _ k (n .register-id-at .ensures x)),
-      λ x before k e b m d. unmade registerElement (register-cut _ _ before e registerElement (g ∙ id-told _ _ _ k (n .register-id-at .ensures x))) d,
+      λ x before k e. register-cut _ _ _ before e registerElement (g ∙ id-told _ _ _ k (n .register-id-at .ensures x)),
+      λ x before k e b m d. unmade registerElement (register-cut _ _ _ before e registerElement (g ∙ id-told _ _ _ k (n .register-id-at .ensures x))) d,
     )
 
 pub register-at-spec : {M : Type 1} → statement M

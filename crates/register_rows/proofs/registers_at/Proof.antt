@@ -1,78 +1,18 @@
-use mathlib.Core.Path.{refl, sym, _∙_, ap}
+use Prim.Native.Nat.{_≤_}
+use mathlib.Core.Path.{sym, subst}
 use borrow.Author.Needs.{needs}
-use Rattle.format.specs.Limits.{regs}
-use Rattle.format.specs.RegisterLayout.{registersAt}
-use Rattle.fields.specs.Views.{nextParsed, numberParsed}
-use Rattle.fields.proofs.Steps.{steps, next-then′, number-then′}
-use Rattle.fields.proofs.RowLaws.{section-counted, section-missed}
-use Rattle.index.proofs.Again as again
+use Rattle.limits.specs.Limits.{libraryLimits}
+use Rattle.limits.proofs.LimitsLaws.{registers-within}
 use Rattle.register_rows.proofs.registers_at.Statement.{statement}
 use Rattle.register_rows.proofs.registers_at.Tie as tie
 
+section-at-requires : tie.Need-section-at-requires
+section-at-requires c κs = subst (λ x. x ≤ libraryLimits .registerInstances) (sym (c .before .before .register-instances .ensures)) (registers-within _)
+
 returns : tie.Need-returns
-unfolding registersAt regs
-returns c =
-    let r = c .before .before .before .before .before .before .before in
-    let n = r .before .before .before .before in
-    let m = n .before .before in
-    let k = m .before .before in
-    let w = k .before .before in (
-      next-then′ _ _ _ (w .keyword-at .ensures) (k .k .given .1)
-          (number-then′ _ _ _ (m .number-count-at .ensures) (n .c .given .1) (section-counted _ _ _ _ (r .rows-at .ensures .0) (c .before .rows .given .1) refl)),
-      λ rs e d. r .rows-at .ensures .1 rs e
-          (again.section-rows _ _ _ _ _ d (sym (ap nextParsed (k .k .given .1)) ∙ w .keyword-at .ensures) (sym (ap numberParsed (n .c .given .1)) ∙ m .number-count-at .ensures)),
-    )
-
-returns-2 : tie.Need-returns-2
-unfolding registersAt regs
-returns-2 c =
-    let r = c .before .before .before .before .before .before .before in
-    let n = r .before .before .before .before in
-    let m = n .before .before in
-    let k = m .before .before in
-    let w = k .before .before in (
-      next-then′ _ _ _ (w .keyword-at .ensures) (k .k .given .1)
-          (number-then′ _ _ _ (m .number-count-at .ensures) (n .c .given .1) (section-missed _ _ _ _ (r .rows-at .ensures .0) (c .before .rows2 .given .1) refl)),
-      λ rs e d. r .rows-at .ensures .1 rs e
-          (again.section-rows _ _ _ _ _ d (sym (ap nextParsed (k .k .given .1)) ∙ w .keyword-at .ensures) (sym (ap numberParsed (n .c .given .1)) ∙ m .number-count-at .ensures)),
-    )
-
-returns-3 : tie.Need-returns-3
-unfolding registersAt regs
-returns-3 c =
-    let m = c .before .before .before in
-    let k = m .before .before in
-    let w = k .before .before in (
-      search steps,
-      λ rs e d. again.section-counted _ _ _ _ _ d (sym (ap nextParsed (k .k .given .1)) ∙ w .keyword-at .ensures) (sym (ap numberParsed (c .before .c2 .given .1)) ∙ m .number-count-at .ensures),
-    )
-
-returns-4 : tie.Need-returns-4
-unfolding registersAt regs
-returns-4 c = (
-  search steps,
-  λ rs e d. again.section-named _ _ _ _ _ d (sym (ap nextParsed (c .before .k2 .given .1)) ∙ c .before .before .before .keyword-at .ensures),
-)
+returns c = rw (← c .before .before .before .before .before .before .before .register-instances .ensures) (c .before .before .before .before .section-at .ensures)
 
 pub registers-at-spec : {M : Type 1} → statement M
 registers-at-spec =
     tie.close
-    (tie.spec
-    (λ c. search needs)
-    (λ c κs. search needs)
-    (λ c. search needs)
-    (λ c κs. search needs)
-    (λ c. search needs)
-    (λ c κs. search needs)
-    (λ c. search needs)
-    (λ c. search needs)
-    (λ c. search needs)
-    (λ c. search needs)
-    (λ c. search needs)
-    (λ c. search needs)
-    returns
-    (λ c. search needs)
-    (λ c. search needs)
-    returns-2
-    returns-3
-    returns-4)
+    (tie.spec (λ c κs. search needs) section-at-requires (λ c. search needs) (λ c. search needs) returns)

@@ -8,11 +8,11 @@ use Rattle.register_rows.proofs.rising_at.Statement.{statement}
 use Rattle.register_rows.proofs.rising_at.Tie as tie
 
 abbrev Inv-loop : tie.InvT-loop
-Inv-loop s at kind id code count total keys₀ kinds₀ size n bound₀ place₀ k₀ left₀ keys kinds bound place k left =
-    Risen s at kind id code count total (pair keys₀ kinds₀) size keys kinds bound place k left
+Inv-loop s at kind id code count total limit keys₀ kinds₀ size n bound₀ place₀ k₀ left₀ keys kinds bound place k left =
+    Risen limit s at kind id code count total (pair keys₀ kinds₀) size keys kinds bound place k left
 
 abbrev μ-loop : tie.MeasureT-loop
-μ-loop s at kind id code count total keys₀ kinds₀ size n bound₀ place₀ k₀ left₀ keys kinds bound place k left = left
+μ-loop s at kind id code count total limit keys₀ kinds₀ size n bound₀ place₀ k₀ left₀ keys kinds bound place k left = left
 
 none : tie.Need-returns Inv-loop μ-loop
 none c = (λ h. absurd (omega arith), covered-none _ _ _)
@@ -36,10 +36,10 @@ mul-if2 : tie.Need-mul-if2 Inv-loop μ-loop
 mul-if2 c = omega (arith, sizes-small (c .before .before .before .before .before .args .count) _ (omega arith) (c .before .instance-size .ensures))
 
 loop-holds : tie.Need-loop-holds Inv-loop μ-loop
-loop-holds c = risen-begin _ _ _ _ _ _ _ _ _ (c .before .before .before .before .before .before .instance-size .ensures) (omega arith) (omega arith)
+loop-holds c = risen-begin _ _ _ _ _ _ _ _ _ _ (c .before .before .before .before .before .before .instance-size .ensures) (omega arith) (omega arith)
 
 shared-slice-read-x : tie.Need-shared-slice-read-x Inv-loop μ-loop
-shared-slice-read-x c = let r = c .before .before .loop .inv in omega (arith, risen-there _ _ _ _ _ _ _ _ r (c .before .loop-test .taken), r .size-is)
+shared-slice-read-x c = let r = c .before .before .loop .inv in omega (arith, risen-there _ _ _ _ _ _ _ _ _ r (c .before .loop-test .taken), r .size-is)
 
 same-length : tie.Need-same-length Inv-loop μ-loop
 same-length c = c .before .before .before .loop .inv .sized .keys
@@ -48,7 +48,7 @@ same-length-2 : tie.Need-same-length-2 Inv-loop μ-loop
 same-length-2 c = c .before .before .before .loop .inv .sized .kinds
 
 returns-7 : tie.Need-returns-7 Inv-loop μ-loop
-returns-7 c = (λ h. absurd (omega arith), risen-covered _ _ _ _ _ _ _ _ (c .before .before .before .loop .inv))
+returns-7 c = (λ h. absurd (omega arith), risen-covered _ _ _ _ _ _ _ _ _ (c .before .before .before .loop .inv))
 
 slice-write-keys : tie.Need-slice-write-keys Inv-loop μ-loop
 slice-write-keys c = let r = c .before .before .before .before .loop .inv in omega (arith, r .among, r .sized .keys)
@@ -57,7 +57,7 @@ slice-write-kinds : tie.Need-slice-write-kinds Inv-loop μ-loop
 slice-write-kinds c = let r = c .before .before .before .before .loop .inv in omega (arith, r .among, r .sized .kinds)
 
 add-place : tie.Need-add-place Inv-loop μ-loop
-add-place c = omega (arith, risen-there _ _ _ _ _ _ _ _ (c .before .before .before .before .loop .inv) (c .before .before .before .loop-test .taken))
+add-place c = omega (arith, risen-there _ _ _ _ _ _ _ _ _ (c .before .before .before .before .loop .inv) (c .before .before .before .loop-test .taken))
 
 add-k : tie.Need-add-k Inv-loop μ-loop
 add-k c = let r = c .before .before .before .before .loop .inv in omega (arith, r .among, r .room)
@@ -65,7 +65,7 @@ add-k c = let r = c .before .before .before .before .loop .inv in omega (arith, 
 loop-again : tie.Need-loop-again Inv-loop μ-loop
 loop-again c =
     let l = c .before .before .before .before .loop in
-    risen-next _ _ _ _ _ _ _ _ (l .inv) (c .before .before .before .loop-test .taken) (c .before .if7 .left) (c .key .ensures)
+    risen-next _ _ _ _ _ _ _ _ _ (l .inv) (c .before .before .before .loop-test .taken) (c .before .if7 .left) (c .key .ensures)
 
 same-length-3 : tie.Need-same-length-3 Inv-loop μ-loop
 same-length-3 c = c .before .loop .inv .sized .keys
@@ -74,7 +74,7 @@ same-length-4 : tie.Need-same-length-4 Inv-loop μ-loop
 same-length-4 c = c .before .loop .inv .sized .kinds
 
 returns-8 : tie.Need-returns-8 Inv-loop μ-loop
-returns-8 c = let r = c .before .loop .inv in (λ h. risen-end _ _ _ _ _ _ _ _ r (c .loop-test .left), risen-covered _ _ _ _ _ _ _ _ r)
+returns-8 c = let r = c .before .loop .inv in (λ h. risen-end _ _ _ _ _ _ _ _ _ r (c .loop-test .left), risen-covered _ _ _ _ _ _ _ _ _ r)
 
 pub rising-at-spec : {M : Type 1} → statement M
 rising-at-spec =

@@ -14,8 +14,8 @@ returns c =
     let r = c .before .before .before .before .before .before .before in
     let i = r .before .before .before .before in
     let n = i .before .before in (
-      λ before w e. register-read _ _ before e (id-rose 3 _ _ (i .i .given .1) (n .rising-id-at .ensures (map registerId before) w)) (sym (ap elementParsed (c .before .e .given .1)) ∙ r .register-after .ensures .0),
-      λ before w e g m d. r .register-after .ensures .1 g m (register-rest _ _ before e (id-new 3 _ _ (i .i .given .1) (n .rising-id-at .ensures (map registerId before) w)) g m d),
+      λ before w e. register-read _ _ _ before e (id-rose 3 _ _ (i .i .given .1) (n .rising-id-at .ensures (map registerId before) w)) (sym (ap elementParsed (c .before .e .given .1)) ∙ r .register-after .ensures .0),
+      λ before w e g m d. r .register-after .ensures .1 g m (register-rest _ _ _ before e (id-new 3 _ _ (i .i .given .1) (n .rising-id-at .ensures (map registerId before) w)) g m d),
     )
 
 returns-2 : tie.Need-returns-2
@@ -23,15 +23,15 @@ returns-2 c =
     let r = c .before .before .before .before .before .before .before in
     let i = r .before .before .before .before in
     let n = i .before .before in (
-      λ before w e. register-made _ _ before e registerElement (id-new 3 _ _ (i .i .given .1) (n .rising-id-at .ensures (map registerId before) w)) (sym (ap elementParsed (c .before .e2 .given .1)) ∙ r .register-after .ensures .0),
-      λ before w e g m d. r .register-after .ensures .1 g m (register-rest _ _ before e (id-new 3 _ _ (i .i .given .1) (n .rising-id-at .ensures (map registerId before) w)) g m d),
+      λ before w e. register-made _ _ _ before e registerElement (id-new 3 _ _ (i .i .given .1) (n .rising-id-at .ensures (map registerId before) w)) (sym (ap elementParsed (c .before .e2 .given .1)) ∙ r .register-after .ensures .0),
+      λ before w e g m d. r .register-after .ensures .1 g m (register-rest _ _ _ before e (id-new 3 _ _ (i .i .given .1) (n .rising-id-at .ensures (map registerId before) w)) g m d),
     )
 
 returns-3 : tie.Need-returns-3
 returns-3 c =
     let n = c .before .before .before in (
-      λ before w e. register-cut _ _ before e registerElement (id-cut 3 _ _ (c .before .i2 .given .1) (n .rising-id-at .ensures (map registerId before) w)),
-      λ before w e g m d. unmade registerElement (register-cut _ _ before e registerElement (id-cut 3 _ _ (c .before .i2 .given .1) (n .rising-id-at .ensures (map registerId before) w))) d,
+      λ before w e. register-cut _ _ _ before e registerElement (id-cut 3 _ _ (c .before .i2 .given .1) (n .rising-id-at .ensures (map registerId before) w)),
+      λ before w e g m d. unmade registerElement (register-cut _ _ _ before e registerElement (id-cut 3 _ _ (c .before .i2 .given .1) (n .rising-id-at .ensures (map registerId before) w))) d,
     )
 
 pub rising-register-at-spec : {M : Type 1} → statement M

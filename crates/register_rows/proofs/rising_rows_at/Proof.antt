@@ -16,24 +16,24 @@ use Rattle.register_rows.proofs.rising_rows_at.Statement.{statement}
 use Rattle.register_rows.proofs.rising_rows_at.Tie as tie
 
 abbrev Inv-loop : tie.InvT-loop
-Inv-loop s at n keys₀ kinds₀ bound₀ total₀ left₀ place₀ keys kinds bound total left place =
-    RisingRows (registerAt s true) registerId registerTotal (λ r. map registerRow (entriesOf r)) 1024 (rowAt (registerAt s true) n [] at) (pair keys₀ kinds₀) (pair keys kinds) bound total left place
+Inv-loop s at n limit keys₀ kinds₀ bound₀ total₀ left₀ place₀ keys kinds bound total left place =
+    RisingRows (registerAt limit s true) registerId registerTotal (λ r. map registerRow (entriesOf r)) limit (rowAt (registerAt limit s true) n [] at) (pair keys₀ kinds₀) (pair keys kinds) bound total left place
 
 abbrev μ-loop : tie.MeasureT-loop
-μ-loop s at n keys₀ kinds₀ bound₀ total₀ left₀ place₀ keys kinds bound total left place = left
+μ-loop s at n limit keys₀ kinds₀ bound₀ total₀ left₀ place₀ keys kinds bound total left place = left
 
 loop-holds : tie.Need-loop-holds Inv-loop μ-loop
-loop-holds c = rows-begin (registers-reader _) _ _ _
+loop-holds c = rows-begin (registers-reader _ _) _ _ _
 
 add-bound : tie.Need-add-bound Inv-loop μ-loop
 add-bound c =
     let r = c .before .before .before .before .before .before .before in
-    omega (arith, rows-room (registers-reader _) (r .before .before .before .before .loop .inv) (r .rising-register-at .ensures .0) (c .before .e .given .1) .0)
+    omega (arith, rows-room (registers-reader _ _) (r .before .before .before .before .loop .inv) (r .rising-register-at .ensures .0) (c .before .e .given .1) .0)
 
 add-total : tie.Need-add-total Inv-loop μ-loop
 add-total c =
     let r = c .before .before .before .before .before .before .before in
-    omega (arith, rows-room (registers-reader _) (r .before .before .before .before .loop .inv) (r .rising-register-at .ensures .0) (c .before .e .given .1) .1)
+    omega (arith, rows-room (registers-reader _ _) (r .before .before .before .before .loop .inv) (r .rising-register-at .ensures .0) (c .before .e .given .1) .1)
 
 same-length : tie.Need-same-length Inv-loop μ-loop
 same-length c = let r = c .before .before .before .before .before .before in r .keys .given ∙ r .before .before .before .before .before .loop .inv .lengths .keys
@@ -44,7 +44,7 @@ same-length-2 c = let r = c .before .before .before .before in r .kinds .given �
 returns : tie.Need-returns Inv-loop μ-loop
 returns c =
     let r = c .before .before .before .before .before .before .before in
-    let e = rows-refused (registers-reader _) (r .before .before .before .before .loop .inv) (r .rising-register-at .ensures .0) (c .before .e2 .given .1) (r .before .before .before .loop-test .taken) in
+    let e = rows-refused (registers-reader _ _) (r .before .before .before .before .loop .inv) (r .rising-register-at .ensures .0) (c .before .e2 .given .1) (r .before .before .before .loop-test .taken) in
     (e, λ rs m d. unmade registerTotal e d)
 
 same-length-3 : tie.Need-same-length-3 Inv-loop μ-loop
@@ -56,12 +56,12 @@ same-length-4 c = let r = c .before .before .before in r .kinds .given ∙ r .be
 returns-2 : tie.Need-returns-2 Inv-loop μ-loop
 returns-2 c =
     let r = c .before .before .before .before .before .before in
-    (tt, λ rs m d. ap (filled _ 0) (rows-of rs) ∙ rows-falls (registers-reader _) (r .before .before .before .before .loop .inv) _ (r .rising-register-at .ensures .1) (c .enum-told .given .1) rs m d ∙ ap (filled _ 0) (sym (rows-of rs)))
+    (tt, λ rs m d. ap (filled _ 0) (rows-of rs) ∙ rows-falls (registers-reader _ _) (r .before .before .before .before .loop .inv) _ (r .rising-register-at .ensures .1) (c .enum-told .given .1) rs m d ∙ ap (filled _ 0) (sym (rows-of rs)))
 
 loop-again : tie.Need-loop-again Inv-loop μ-loop
 loop-again c =
     let r = c .before .before .before .before .before .before .before in
-    rows-next (registers-reader _) (r .before .before .before .before .loop .inv) (r .rising-register-at .ensures .0) _ (r .rising-register-at .ensures .1) (c .before .e .given .1)
+    rows-next (registers-reader _ _) (r .before .before .before .before .loop .inv) (r .rising-register-at .ensures .0) _ (r .rising-register-at .ensures .1) (c .before .e .given .1)
     (r .before .before .before .loop-test .taken)
     (record { keys = c .before .before .before .before .before .before .keys .given; kinds = c .before .before .before .before .kinds .given; places = refl })
 
@@ -74,7 +74,7 @@ same-length-6 c = c .before .loop .inv .lengths .kinds
 returns-3 : tie.Need-returns-3 Inv-loop μ-loop
 returns-3 c =
     let r = c .before .loop .inv in
-    (rows-last (registers-reader _) r (c .loop-test .left), λ rs m d. rows-filled (registers-reader _) r (c .loop-test .left) rs m d ∙ ap (filled _ 0) (sym (rows-of rs)))
+    (rows-last (registers-reader _ _) r (c .loop-test .left), λ rs m d. rows-filled (registers-reader _ _) r (c .loop-test .left) rs m d ∙ ap (filled _ 0) (sym (rows-of rs)))
 
 pub rising-rows-at-spec : {M : Type 1} → statement M
 rising-rows-at-spec =

@@ -12,9 +12,9 @@ returns c =
 returns-2 : tie.Need-returns-2
 returns-2 c =
     let i = c .before .before .before .before in
-    let f = i .before .before .before in
+    let f = i .before .before .before .before in
     let r = f .before .before .before .before .before .before in
-    (i .indexed-rows-at .ensures .0, λ rs m d. i .indexed-rows-at .ensures .1 rs m d ∙ count-fell _ _ (f .enum-told .given .1) (r .rising-rows-at .ensures .1 rs m d))
+    (i .listed-rows-at .ensures .0, λ rs m d. i .listed-rows-at .ensures .1 rs m d ∙ count-fell _ _ (f .enum-told .given .1) (r .rising-rows-at .ensures .1 rs m d))
 
 pub rows-at-spec : {M : Type 1} → statement M
 rows-at-spec =
@@ -23,6 +23,7 @@ rows-at-spec =
     (λ c κs. search needs)
     (λ c. search needs)
     (λ c. search needs)
+    (λ c κs. search needs)
     (λ c κs. search needs)
     (λ c. search needs)
     (λ c. search needs)

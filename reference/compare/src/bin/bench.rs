@@ -9,16 +9,26 @@ use std::hint::black_box;
 use std::time::{Duration, Instant};
 
 use compare::proved;
+use reference::isolation::RECORD_BYTES;
 use reference::large::{self, Crowding, Order};
 use reference::vectors::{expected_of_check, expected_of_pair, EXPECTED};
-use reference::{fast, readings, Accepted, Refusal};
+use reference::{fast, readings, Accepted, Limits, Refusal};
 
 /// One measurement repeats a call for at least so long.
 const SHORTEST: Duration = Duration::from_micros(500);
-/// All measurements of one job take about so long.
+/// All measurements of one job take about so long; those of one whose calls take
+/// long are fewer.
 const LONGEST: Duration = Duration::from_secs(4);
+const LONGEST_OF_LONG_CALLS: Duration = Duration::from_millis(1_500);
+const LONG_ROUND: Duration = Duration::from_millis(10);
 const FEWEST_ROUNDS: usize = 15;
 const MOST_ROUNDS: usize = 301;
+/// One whose rounds take longer than this has fewer still.
+const VERY_LONG_ROUND: Duration = Duration::from_millis(500);
+const FEWEST_VERY_LONG_ROUNDS: usize = 5;
+
+const LIBRARY: Limits = Limits::LIBRARY;
+const PROGRAM: Limits = Limits::PROGRAM;
 
 type Answer = [u32; EXPECTED];
 
@@ -83,7 +93,10 @@ type Isolate = fn(&[u8], u8, &[u64], &[u8], &mut [u8]) -> Result<(usize, usize),
 /// The answer is what the calls return; the lists are compared here.
 fn isolate<'a>(name: &str, file: &'a [u8], words: &'a [u64], read: &'a [u8]) -> Job<'a> {
     let mut out = [0; proved::ISOLATE_PLACES];
-    let mut list = vec![0xEE; 16_384 * 8];
+    // 64 bits of each node instance.
+    let instances = reference::check(file).map_or(0, |summary| summary.node_instances);
+    let room = 64 * instances * RECORD_BYTES;
+    let mut list = vec![0xEE; room];
     let mut fast_list = list.clone();
     let mut clear_list = list.clone();
     proved::isolate(
@@ -98,7 +111,7 @@ fn isolate<'a>(name: &str, file: &'a [u8], words: &'a [u64], read: &'a [u8]) -> 
     let _ = reference::isolate(file, large::ATTENTION_TYPE, words, read, &mut clear_list);
     assert!(list == clear_list && fast_list == clear_list, "{name}");
     let by_rust = |isolate: Isolate| {
-        let mut list = vec![0; 16_384 * 8];
+        let mut list = vec![0; room];
         move || {
             let answer = isolate(
                 black_box(file),
@@ -200,6 +213,20 @@ fn calls_for(call: &mut dyn FnMut() -> Answer) -> (u32, Duration) {
     }
 }
 
+/// How many rounds there are if one takes so long.
+fn rounds_of(of_a_round: Duration) -> usize {
+    let all = match of_a_round < LONG_ROUND {
+        true => LONGEST,
+        false => LONGEST_OF_LONG_CALLS,
+    };
+    let fewest = match of_a_round < VERY_LONG_ROUND {
+        true => FEWEST_ROUNDS,
+        false => FEWEST_VERY_LONG_ROUNDS,
+    };
+    let rounds = all.as_secs_f64() / of_a_round.as_secs_f64();
+    (rounds as usize).clamp(fewest, MOST_ROUNDS)
+}
+
 fn median(times: &mut [f64]) -> f64 {
     times.sort_by(f64::total_cmp);
     times[times.len() / 2]
@@ -233,8 +260,7 @@ fn run(mut job: Job<'_>, base: Option<Medians>) -> Option<Medians> {
         *calls = enough;
         of_a_round += taken;
     }
-    let rounds = (LONGEST.as_secs_f64() / of_a_round.as_secs_f64()) as usize;
-    let rounds = rounds.clamp(FEWEST_ROUNDS, MOST_ROUNDS);
+    let rounds = rounds_of(of_a_round);
 
     let mut times = [const { Vec::new() }; 3];
     for round in 0..rounds {
@@ -261,7 +287,7 @@ fn run(mut job: Job<'_>, base: Option<Medians>) -> Option<Medians> {
 }
 
 /// The width of the jobs' names.
-const NAME_WIDTH: usize = 66;
+const NAME_WIDTH: usize = 68;
 
 /// Which job of its group a job is compared with.
 #[derive(Clone, Copy, PartialEq, Eq)]
@@ -307,6 +333,208 @@ impl Group<'_> {
     }
 }
 
+/// What is measured is there until the end.
+fn kept<T>(all: Vec<T>) -> &'static [T] {
+    all.leak()
+}
+
+/// The number as it is written: 8,192.
+fn written(number: usize) -> String {
+    match number {
+        0..1_000 => number.to_string(),
+        _ => format!("{},{:03}", written(number / 1_000), number % 1_000),
+    }
+}
+
+/// Names and IDs that collide, as many as there may be: in threes, the first of
+/// which are spread.
+fn collisions(limits: Limits) -> Vec<Job<'static>> {
+    let registers = written(limits.register_instances);
+    let nodes = written(limits.node_instances);
+    let all_bits = kept(vec![u64::MAX; limits.node_instances]);
+    let read = kept(vec![1; limits.node_instances]);
+    let crowdings = [
+        (Crowding::None, "spread"),
+        (Crowding::By64, "many at each place"),
+        (Crowding::AtTheEnd, "all at the end"),
+    ];
+    let each = |job: &dyn Fn(Crowding, &str) -> Job<'static>| {
+        crowdings.map(|(crowding, name)| job(crowding, name))
+    };
+    let children = crowdings.map(|(crowding, _)| kept(large::crowded_children(limits, crowding)));
+    let children_of = |crowding| {
+        let at = crowdings.iter().position(|&(other, _)| other == crowding);
+        children[at.expect("it is one of them")]
+    };
+    let mut jobs = Vec::new();
+    jobs.extend(each(&|crowding, name| {
+        let file = kept(large::crowded_captures(limits, crowding));
+        check(
+            &format!("captures of {registers} registers, names {name}"),
+            file,
+        )
+    }));
+    jobs.extend(each(&|crowding, name| {
+        let file = kept(large::late_crowded_absence(limits, crowding));
+        let what = format!("absent capture, {registers} registers, names {name}");
+        refused_check(12, &what, file)
+    }));
+    jobs.extend(each(&|crowding, name| {
+        let what = format!("{nodes} with 60 children each, names {name}");
+        check(&what, children_of(crowding))
+    }));
+    jobs.extend(each(&|crowding, name| {
+        let what = format!("{nodes} with 60 children each, names {name}");
+        isolate(&what, children_of(crowding), all_bits, read)
+    }));
+    jobs.extend(each(&|crowding, name| {
+        let file = kept(large::crowded_registers(limits, crowding));
+        check(&format!("{registers} registers, IDs falling, {name}"), file)
+    }));
+    jobs.extend(each(&|crowding, name| {
+        let file = kept(large::crowded_nodes(limits, crowding));
+        check(
+            &format!("{nodes} nodes and registers, IDs falling, {name}"),
+            file,
+        )
+    }));
+    jobs
+}
+
+/// Files of 1 MB or with as many instances as the library takes.
+fn accepted_at_the_limits() -> Vec<Job<'static>> {
+    let registers = |order| kept(large::registers_in(order, LIBRARY.register_instances));
+    let nodes = |order| kept(large::nodes_in(order, LIBRARY.node_instances));
+    let count = LIBRARY.node_instances;
+    let row = kept(large::children(count, 1, false));
+    let backward_row = kept(large::children(count, 1, true));
+    let forward = kept(large::children(count, large::MOST_CHILDREN, false));
+    let backward = kept(large::children(count, large::MOST_CHILDREN, true));
+    let mixed = kept(large::mixed_children(count, large::MOST_CHILDREN));
+    let captures = kept(large::captures(LIBRARY, 0));
+    let deep = kept(large::deep_expressions(LIBRARY));
+    let shuffled = registers(Order::Shuffled);
+    let read = kept(vec![1; LIBRARY.register_instances]);
+    let all_bits = kept(vec![u64::MAX; LIBRARY.register_instances]);
+    let top_bit = kept(vec![1 << 63; count]);
+    let every_fourth = kept(large::every_fourth(count));
+    let of_1_024 = |name: &str, file: &'static [u8], words: &'static [u64]| {
+        let name = format!("a 1,024-instance file, {name}");
+        isolate(&name, file, words, &read[..count])
+    };
+    let few = kept(large::register_instances(LIBRARY.register_instances, 255));
+    vec![
+        check("1 MB, most of it captures", captures),
+        check("1 MB, deep expressions", deep),
+        check("8,192 registers, IDs rising", registers(Order::Rising)),
+        check("8,192 registers, IDs falling", registers(Order::Falling)),
+        check("8,192 registers, IDs shuffled", shuffled),
+        check(
+            "8,192 registers, IDs alternating",
+            registers(Order::Alternating),
+        ),
+        check("8,192 instances of 33 registers", few),
+        check(
+            "1,024 nodes and registers, IDs rising",
+            nodes(Order::Rising),
+        ),
+        check(
+            "1,024 nodes and registers, IDs falling",
+            nodes(Order::Falling),
+        ),
+        check(
+            "1,024 nodes and registers, IDs shuffled",
+            nodes(Order::Shuffled),
+        ),
+        check("a row of 1,024, children forward", row),
+        check("a row of 1,024, children backward", backward_row),
+        check("1,024 instances, 60 children each, forward", forward),
+        check("1,024 instances, 60 children each, backward", backward),
+        check("1,024 instances, 60 children each, mixed", mixed),
+        address("ID 8,192 of 8,192, IDs shuffled", shuffled, 8_192),
+        of_1_024("a row, one record", row, top_bit),
+        of_1_024("a row, 64,513 records", row, &all_bits[..count]),
+        of_1_024("a row backward, one record", backward_row, top_bit),
+        of_1_024("60 children each, one bit each", forward, top_bit),
+        of_1_024("60 children each, forward", forward, &all_bits[..count]),
+        of_1_024("60 children each, backward", backward, &all_bits[..count]),
+        of_1_024("60 children each, mixed", mixed, &all_bits[..count]),
+        of_1_024("60 children each, most silent", forward, every_fourth),
+        isolate("1 MB, deep expressions", deep, all_bits, read),
+        isolate("1 MB, most of it captures", captures, all_bits, read),
+    ]
+}
+
+fn refused_at_the_limits() -> Vec<Job<'static>> {
+    let registers = LIBRARY.register_instances;
+    let count = LIBRARY.node_instances;
+    let duplicate = |order| kept(large::late_duplicate(order, registers));
+    let captures = kept(large::captures(LIBRARY, 0));
+    let deep = kept(large::deep_expressions(LIBRARY));
+    let longer = kept(large::captures(LIBRARY, 1));
+    let more_registers = kept(large::register_instances(registers + 1, 1));
+    let more_nodes = kept(large::node_instances(count + 1));
+    let absence = kept(large::late_absence(LIBRARY));
+    let absent_child = kept(large::late_absent_child(count));
+    let write_only = kept(large::late_write_only(LIBRARY));
+    let cycle = kept(large::late_cycle(count));
+    vec![
+        refused_check(1, "1 MB and a byte, captures", longer),
+        refused_check(2, "1 MB of captures but the last byte", but_one(captures)),
+        refused_check(2, "1 MB of expressions but the last byte", but_one(deep)),
+        refused_check(
+            7,
+            "8,192 registers, the last ID twice",
+            duplicate(Order::Rising),
+        ),
+        refused_check(7, "the same 8,192, IDs falling", duplicate(Order::Falling)),
+        refused_check(
+            7,
+            "the same 8,192, IDs shuffled",
+            duplicate(Order::Shuffled),
+        ),
+        refused_check(8, "8,193 registers", more_registers),
+        refused_check(8, "1,025 nodes", more_nodes),
+        refused_check(12, "1 MB of captures, the last one absent", absence),
+        refused_check(12, "1,024 with 60 children, one absent", absent_child),
+        refused_check(13, "1 MB of captures, one write-only", write_only),
+        refused_check(14, "1,024 with 60 children, a cycle of two", cycle),
+    ]
+}
+
+/// Files of 1 KB, 2 KB and so on to the library's limit: check, isolation, and
+/// check with IDs that fall and that are shuffled.
+fn growth() -> [Vec<Job<'static>>; 4] {
+    let files = |order: Order| -> Vec<(String, &'static [u8])> {
+        (10..=LIBRARY.bytes.trailing_zeros())
+            .map(|power| {
+                let file = kept(large::of_size_in(order, 1 << power));
+                let name = format!("some of everything, {} KB", written(1 << (power - 10)));
+                (name, file)
+            })
+            .collect()
+    };
+    let checks = |order: Order, note: &str| {
+        let files = files(order).into_iter();
+        files
+            .map(|(name, file)| check(&format!("{name}{note}"), file))
+            .collect()
+    };
+    let four_bits = kept(vec![0xF << 60; LIBRARY.register_instances]);
+    let read = kept(vec![1; LIBRARY.register_instances]);
+    let isolations = files(Order::Rising).into_iter().map(|(name, file)| {
+        let summary = reference::check(file).expect("the file is accepted");
+        let instances = summary.register_instances;
+        isolate(&name, file, &four_bits[..instances], &read[..instances])
+    });
+    [
+        checks(Order::Rising, ""),
+        isolations.collect(),
+        checks(Order::Falling, ", IDs falling"),
+        checks(Order::Shuffled, ", IDs shuffled"),
+    ]
+}
+
 /// The Rust side is to be built for plain x86-64, as the proved library is: no
 /// instructions that not all of these processors have.
 const IS_PLAIN: bool = !cfg!(any(
@@ -327,13 +555,12 @@ fn main() {
     println!("Ratios of median times: the proved library's by that of ordinary fast Rust, and by");
     println!("that of the clear reference. All calls of a job are taken in turn in one run.");
     println!("No buffer is cleared before a call: each call meets the list and the answer of the");
-    println!("one before it. The list has room for 16,384 records, the text for 152,000 bytes.");
+    println!("one before it. The list has room for all bits of the node instances, the text for");
+    println!("152,000 bytes.");
     println!("The last two columns: the time by that of another job, of the proved library and of");
     println!("fast Rust. Where sizes double it is that of half the size: 2 if the time grows with");
     println!("the size, 4 if with its square. Where names collide it is that of names that are");
-    println!(
-        "spread. Fast Rust mixes names by the same factor, so some of them collide there too."
-    );
+    println!("spread. Fast Rust has another table, in which these names do not collide.");
     println!();
     println!(
         "{:<NAME_WIDTH$} {:>9} {:>9} {:>7} {:>7} {:>7}",
@@ -343,18 +570,18 @@ fn main() {
     let registers = large::register_instances(1_024, 1);
     let few_registers = large::register_instances(1_024, 255);
     let nodes = large::node_instances(256);
-    let captures = large::captures(0);
-    let deep = large::deep_expressions();
-    let row = large::children(1, false);
-    let last_bit_row = large::row_at(63);
-    let backward_row = large::children(1, true);
-    let forward = large::children(large::MOST_CHILDREN, false);
-    let backward = large::children(large::MOST_CHILDREN, true);
-    let mixed = large::mixed_children(large::MOST_CHILDREN);
+    let captures = large::captures(PROGRAM, 0);
+    let deep = large::deep_expressions(PROGRAM);
+    let row = large::children(256, 1, false);
+    let last_bit_row = large::row_at(256, 63);
+    let backward_row = large::children(256, 1, true);
+    let forward = large::children(256, large::MOST_CHILDREN, false);
+    let backward = large::children(256, large::MOST_CHILDREN, true);
+    let mixed = large::mixed_children(256, large::MOST_CHILDREN);
     let top_bit = [1u64 << 63; 1_024];
     let last_bit = [1u64; 256];
     let all_bits = [u64::MAX; 1_024];
-    let every_fourth = large::every_fourth();
+    let every_fourth = large::every_fourth(256);
     let read = [1u8; 1_024];
 
     let full = large::full_counts();
@@ -362,8 +589,8 @@ fn main() {
     let full_readings = readings_file(&full, all_bits[0]);
 
     let accepted = vec![
-        check("a file at the limits, most of it captures", &captures),
-        check("a file at the limits, deep expressions", &deep),
+        check("64 KB, most of it captures", &captures),
+        check("64 KB, deep expressions", &deep),
         isolate(
             "a 256-instance file, a row, one record",
             &row,
@@ -439,12 +666,12 @@ fn main() {
         address("the last of 1,024 registers", &registers, 1_024),
     ];
 
-    let registers_falling = large::registers_in(Order::Falling);
-    let registers_shuffled = large::registers_in(Order::Shuffled);
-    let registers_alternating = large::registers_in(Order::Alternating);
-    let nodes_falling = large::nodes_in(Order::Falling);
-    let nodes_shuffled = large::nodes_in(Order::Shuffled);
-    let nodes_alternating = large::nodes_in(Order::Alternating);
+    let registers_falling = large::registers_in(Order::Falling, 1_024);
+    let registers_shuffled = large::registers_in(Order::Shuffled, 1_024);
+    let registers_alternating = large::registers_in(Order::Alternating, 1_024);
+    let nodes_falling = large::nodes_in(Order::Falling, 256);
+    let nodes_shuffled = large::nodes_in(Order::Shuffled, 256);
+    let nodes_alternating = large::nodes_in(Order::Alternating, 256);
     let orders = vec![
         check("1,024 registers, IDs rising", &registers),
         check("1,024 registers, IDs falling", &registers_falling),
@@ -460,59 +687,14 @@ fn main() {
         address("ID 1,024, IDs shuffled", &registers_shuffled, 1_024),
     ];
 
-    let crowdings = [
-        (Crowding::None, "spread"),
-        (Crowding::By64, "64 at each place"),
-        (Crowding::AtTheEnd, "all at the end"),
-    ];
-    let crowded: Vec<_> = crowdings
-        .into_iter()
-        .map(|(crowding, name)| {
-            let files = [
-                large::crowded_captures(crowding),
-                large::crowded_children(crowding),
-                large::crowded_registers(crowding),
-                large::crowded_nodes(crowding),
-                large::late_crowded_absence(crowding),
-            ];
-            (name, files)
-        })
-        .collect();
-    let mut collisions = Vec::new();
-    for (name, [captures, ..]) in &crowded {
-        let what = format!("captures of 1,024 registers, names {name}");
-        collisions.push(check(&what, captures));
-    }
-    for (name, [.., absence]) in &crowded {
-        let what = format!("absent capture, names {name}");
-        collisions.push(refused_check(12, &what, absence));
-    }
-    for (name, [_, children, ..]) in &crowded {
-        let what = format!("60 children each, names {name}");
-        collisions.push(check(&what, children));
-    }
-    for (name, [_, children, ..]) in &crowded {
-        let what = format!("60 children each, names {name}");
-        let job = isolate(&what, children, &all_bits[..256], &read[..256]);
-        collisions.push(job);
-    }
-    for (name, [_, _, registers, ..]) in &crowded {
-        let what = format!("1,024 registers, IDs falling, {name}");
-        collisions.push(check(&what, registers));
-    }
-    for (name, [_, _, _, nodes, _]) in &crowded {
-        let what = format!("256 nodes and registers, IDs falling, {name}");
-        collisions.push(check(&what, nodes));
-    }
-
-    let duplicate = large::late_duplicate(Order::Rising);
-    let duplicate_falling = large::late_duplicate(Order::Falling);
-    let duplicate_shuffled = large::late_duplicate(Order::Shuffled);
-    let duplicate_alternating = large::late_duplicate(Order::Alternating);
-    let absence = large::late_absence();
-    let absent_child = large::late_absent_child();
-    let write_only = large::late_write_only();
-    let cycle = large::late_cycle();
+    let duplicate = large::late_duplicate(Order::Rising, 1_024);
+    let duplicate_falling = large::late_duplicate(Order::Falling, 1_024);
+    let duplicate_shuffled = large::late_duplicate(Order::Shuffled, 1_024);
+    let duplicate_alternating = large::late_duplicate(Order::Alternating, 1_024);
+    let absence = large::late_absence(PROGRAM);
+    let absent_child = large::late_absent_child(256);
+    let write_only = large::late_write_only(PROGRAM);
+    let cycle = large::late_cycle(256);
     let refused = vec![
         refused_check(7, "1,024 registers, the last ID twice", &duplicate),
         refused_check(7, "the same, IDs falling", &duplicate_falling),
@@ -526,45 +708,32 @@ fn main() {
         refused_check(14, "60 children each, a cycle of the last two", &cycle),
     ];
 
-    // 1 KB, 2 KB and so on to the limit.
-    let of_sizes = |order: Order| -> Vec<Vec<u8>> {
-        let powers = 10..=16;
-        powers
-            .map(|power| large::of_size_in(order, 1 << power))
-            .collect()
-    };
-    let rising = of_sizes(Order::Rising);
-    let falling = of_sizes(Order::Falling);
-    let shuffled = of_sizes(Order::Shuffled);
-    let four_bits = [0xF << 60; 1_024];
-    let name_of = |power: usize| format!("some of everything, {} KB", 1 << power);
-    let mut growth_of_check = Vec::new();
-    let mut growth_of_isolation = Vec::new();
-    let mut growth_falling = Vec::new();
-    let mut growth_shuffled = Vec::new();
-    for (power, file) in rising.iter().enumerate() {
-        let instances = file.len().div_ceil(256) * 4;
-        growth_of_check.push(check(&name_of(power), file));
-        growth_of_isolation.push(isolate(
-            &name_of(power),
-            file,
-            &four_bits[..instances],
-            &read[..instances],
-        ));
-    }
-    for (power, file) in falling.iter().enumerate() {
-        growth_falling.push(check(&format!("{}, IDs falling", name_of(power)), file));
-    }
-    for (power, file) in shuffled.iter().enumerate() {
-        growth_shuffled.push(check(&format!("{}, IDs shuffled", name_of(power)), file));
-    }
-
+    let [growth_of_check, growth_of_isolation, growth_falling, growth_shuffled] = growth();
     let group = |title, base, jobs| Group { title, base, jobs };
     let groups = [
         group("Accepted files", Base::Nothing, accepted),
         group("Orders of IDs", Base::Nothing, orders),
-        group("Names and IDs that collide", Base::Spread, collisions),
         group("Refused files", Base::Nothing, refused),
+        group(
+            "Names and IDs that collide",
+            Base::Spread,
+            collisions(PROGRAM),
+        ),
+        group(
+            "Accepted files at the library's limits",
+            Base::Nothing,
+            accepted_at_the_limits(),
+        ),
+        group(
+            "Refused files at the library's limits",
+            Base::Nothing,
+            refused_at_the_limits(),
+        ),
+        group(
+            "Names and IDs that collide, at the library's limits",
+            Base::Spread,
+            collisions(LIBRARY),
+        ),
         group("Growth by size: check", Base::Half, growth_of_check),
         group("Growth by size: isolation", Base::Half, growth_of_isolation),
         group("Growth by size: IDs falling", Base::Half, growth_falling),

@@ -81,6 +81,7 @@ fn run(numbers: &[&str], trace: bool) -> ExitCode {
     let mut reported = checked;
     let mut cut = 0u64;
     let mut above_silent = [0u64; HIGHEST_NUMBER as usize + 1];
+    let mut too_large_for_the_report = above_silent;
     for number in 0..cases {
         if trace {
             eprintln!("case {number}");
@@ -94,6 +95,8 @@ fn run(numbers: &[&str], trace: bool) -> ExitCode {
                 reported[usize::from(outcomes.report)] += 1;
                 cut += u64::from(outcomes.cut);
                 above_silent[usize::from(outcomes.isolate)] += u64::from(outcomes.above_silent);
+                too_large_for_the_report[usize::from(outcomes.check)] +=
+                    u64::from(outcomes.is_too_large_for_the_report_alone());
             }
             Err(difference) => {
                 println!("case {number} of seed {seed}: {difference}");
@@ -111,6 +114,13 @@ fn run(numbers: &[&str], trace: bool) -> ExitCode {
         above_silent[0],
         above_silent[usize::from(refusal::NO_ROOM)]
     );
+    print!("files too large for the report alone, by what the check says");
+    for (number, count) in too_large_for_the_report.iter().enumerate() {
+        if *count > 0 {
+            print!(" {number}:{count}");
+        }
+    }
+    println!();
     println!("number check address isolate report");
     for number in 0..checked.len() {
         println!(

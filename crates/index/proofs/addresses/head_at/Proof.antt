@@ -2,15 +2,13 @@ use mathlib.Core.Path.{sym, _∙_, ap}
 use borrow.Author.Needs.{needs}
 use Rattle.fields.specs.Views.{numberParsed}
 use Rattle.registers.specs.Registers.{registerHeadParsed}
-use Rattle.tables.specs.Kinds.{kindOf}
 use Rattle.index.proofs.Again.{head-is, register-head-rest, register-head-there, not-refused}
 use Rattle.index.proofs.addresses.head_at.Statement.{statement}
 use Rattle.index.proofs.addresses.head_at.Tie as tie
 
 returns : tie.Need-returns
-unfolding kindOf
 returns c =
-    let t = c .before .before .before in
+    let t = c .before in
     let r = t .before .before in
     let n = r .before .before in
     λ ids h m. head-is _ _ ids
@@ -35,10 +33,6 @@ head-at-spec =
     (λ c κs. search needs)
     (λ c. search needs)
     (λ c κs. search needs)
-    (λ c. search needs)
-    (λ c. search needs)
-    (λ c. search needs)
-    (λ c. search needs)
     (λ c. search needs)
     (λ c. search needs)
     (λ c κs. search needs)

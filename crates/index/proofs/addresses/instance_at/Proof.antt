@@ -7,19 +7,19 @@ use Rattle.index.proofs.addresses.instance_at.Tie as tie
 
 returns : tie.Need-returns
 returns c =
-    λ total before i m. register-instance-again _ _ total _ before
+    λ limit total before i m. register-instance-again limit _ _ total _ before
     (sym (ap byteParsed (c .before .before .before .before .before .b .given .1)) ∙ c .before .before .before .before .before .before .before .byte-at .ensures)
     (sym (ap numberParsed (c .before .x .given .1)) ∙ c .before .before .before .address-at .ensures)
 
 returns-2 : tie.Need-returns-2
 returns-2 c =
-    λ total before i m. register-instance-whole _ _ total _ before
+    λ limit total before i m. register-instance-whole limit _ _ total _ before
     (sym (ap byteParsed (c .before .before .before .before .b .given .1)) ∙ c .before .before .before .before .before .before .byte-at .ensures)
     (sym (ap numberParsed (c .enum-told .given .1)) ∙ c .before .before .address-at .ensures)
 
 returns-3 : tie.Need-returns-3
 returns-3 c =
-    λ total before i m. register-instance-there _ _ total _ before
+    λ limit total before i m. register-instance-there limit _ _ total _ before
     (sym (ap byteParsed (c .enum-told2 .given .1)) ∙ c .before .before .byte-at .ensures)
 
 pub instance-at-spec : {M : Type 1} → statement M

@@ -7,6 +7,8 @@ use native.Mathlib.Omega.{arith}
 use borrow.Author.Needs.{needs}
 use lib.ListN.{length, length-set, length-replicate}
 use lib.Seq.{length-take-le}
+use Rattle.tables.specs.Indexed.{placesFor}
+use Rattle.limits.specs.Limits.{libraryLimits}
 use Rattle.format.specs.Lookup.{nodeEntriesOf}
 use Rattle.format.specs.Parsed.{rowAt}
 use Rattle.format.specs.NodeLayout.{nodeTotal, nodeAt}
@@ -24,24 +26,26 @@ use Rattle.index.proofs.node_rows.indexed_rows_at.Statement.{statement}
 use Rattle.index.proofs.node_rows.indexed_rows_at.Tie as tie
 
 abbrev Inv-loop : tie.InvT-loop
-Inv-loop s at n keys₀ kinds₀ places₀ ids₀ index₀ known₀ entered₀ largest₀ total₀ left₀ place₀ keys kinds places ids index known entered largest total left place =
-    (length ids ≡ 256) × (length index ≡ 544) × (known ≤ total) × (total ≤ 256) × Elements (nodeAt s true) nodeId nodeTotal (rowAt (nodeAt s true) n [] at) ids index known entered largest total left place
+Inv-loop s at n limit keys₀ kinds₀ places₀ ids₀ index₀ known₀ entered₀ largest₀ total₀ left₀ place₀ keys kinds places ids index known entered largest total left place =
+    (length ids ≡ libraryLimits .nodeInstances) × (length index ≡ placesFor (libraryLimits .nodeInstances)) × (known ≤ total) × (total ≤ libraryLimits .nodeInstances) × Elements (nodeAt limit s true) nodeId nodeTotal (rowAt (nodeAt limit s true) n [] at) ids index known entered largest total left place
     × Sized (record { keys = keys₀; kinds = kinds₀; places = places₀ }) (record { keys = keys; kinds = kinds; places = places })
-    × Filling (nodeAt s true) (λ r. map nodeRow (nodeEntriesOf r)) (λ before j. j ≡ nodeTotal before) (rowAt (nodeAt s true) n [] at)
+    × Filling (nodeAt limit s true) (λ r. map nodeRow (nodeEntriesOf r)) (λ before j. j ≡ nodeTotal before) (rowAt (nodeAt limit s true) n [] at)
     (record { keys = keys₀; kinds = kinds₀; places = places₀ }) 0 (record { keys = keys; kinds = kinds; places = places }) total left place
+    × (limit ≤ libraryLimits .nodeInstances)
 
 abbrev μ-loop : tie.MeasureT-loop
-μ-loop s at n keys₀ kinds₀ places₀ ids₀ index₀ known₀ entered₀ largest₀ total₀ left₀ place₀ keys kinds places ids index known entered largest total left place = left
+μ-loop s at n limit keys₀ kinds₀ places₀ ids₀ index₀ known₀ entered₀ largest₀ total₀ left₀ place₀ keys kinds places ids index known entered largest total left place = left
 
 loop-holds : tie.Need-loop-holds Inv-loop μ-loop
 loop-holds c = (
-  length-replicate {A = ℕ} 256 0,
-  length-replicate {A = ℕ} 544 0,
+  length-replicate {A = ℕ} (libraryLimits .nodeInstances) 0,
+  length-replicate {A = ℕ} (placesFor (libraryLimits .nodeInstances)) 0,
   omega arith,
   omega arith,
   elements-begin _ _ _ _ nodes-none nodes-more _ _ _ _,
   record { keys = refl; kinds = refl; places = refl },
   filling-begin _ _ _ _ _ _ _ (sym nodes-none),
+  c .before .before .before .before .pre,
 )
 
 array-share-prefix-ids : tie.Need-array-share-prefix-ids Inv-loop μ-loop
@@ -63,8 +67,8 @@ array-write-ids : tie.Need-array-write-ids Inv-loop μ-loop
 array-write-ids c =
     let l = c .before .before .before .before .before .before .before .before .before .before .before .before .before .before .before .before .loop in
     let x = l .inv .4 in
-    let h = node-size _ (x .before) _ (sym (ap elementParsed (c .before .e .given .1)) ∙ c .before .before .before .before .before .before .before .before .before .node-at .ensures .0 (x .indexed) (x .before) (elements-told _ _ _ _ nodes-none nodes-more x) (x .counting .counted)) in
-    omega (arith, h .0, h .1, x .counting .counted)
+    let h = node-size _ _ (x .before) _ (sym (ap elementParsed (c .before .e .given .1)) ∙ c .before .before .before .before .before .before .before .before .before .node-at .ensures .0 (x .indexed) (x .before) (elements-told _ _ _ _ nodes-none nodes-more x) (x .counting .counted)) in
+    omega (arith, h .0, h .1, x .counting .counted, l .inv .7)
 
 add-ids : tie.Need-add-ids Inv-loop μ-loop
 add-ids c = omega arith
@@ -111,14 +115,15 @@ loop-again c =
     let k = elements-told _ _ _ _ nodes-none nodes-more x in
     let t = d .before .before .before .before .before .before .before .before .before .before .before .before .before .before .before .loop-test .taken in
     let z = sym (ap elementParsed (d .before .e .given .1)) ∙ v .0 (x .indexed) (x .before) k (x .counting .counted) in
-    let h = node-size _ (x .before) _ z in (
+    let h = node-size _ _ (x .before) _ z in (
       length-set (l .ids) (l .known) (d .before .e .given .0 .0) ∙ l .inv .0,
       c .before .index3 .given,
       omega (arith, h .0),
-      omega (arith, h .1, x .counting .counted),
+      omega (arith, h .1, x .counting .counted, l .inv .7),
       elements-next _ _ _ _ nodes-none nodes-more x z t (omega (arith, array-write-ids d, l .inv .0)) (omega (arith, l .inv .0)) (c .before .before .enter-ids .ensures) (c .larger .ensures),
       record { keys = d .before .before .before .before .before .before .before .before .keys .given ∙ l .inv .5 .keys; kinds = d .before .before .before .before .before .before .kinds .given ∙ l .inv .5 .kinds; places = d .before .before .before .before .places .given ∙ l .inv .5 .places },
-      filling-next _ _ _ (l .inv .6) t (node-next _ _ _ _ (x .before) (x .counting .counted) z (v .1 (x .indexed) (x .before) k (x .counting .counted))),
+      filling-next _ _ _ (l .inv .6) t (node-next _ _ _ _ _ (x .before) (x .counting .counted) z (v .1 (x .indexed) (x .before) k (x .counting .counted))),
+      l .inv .7,
     )
 
 same-length-4 : tie.Need-same-length-4 Inv-loop μ-loop

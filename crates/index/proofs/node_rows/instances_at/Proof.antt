@@ -18,14 +18,14 @@ use Rattle.index.proofs.node_rows.instances_at.Statement.{statement}
 use Rattle.index.proofs.node_rows.instances_at.Tie as tie
 
 abbrev Inv-loop : tie.InvT-loop
-Inv-loop s at id code count total keys₀ kinds₀ places₀ seen₀ begun₀ left₀ place₀ keys kinds places seen begun left place =
-    Row (nodeInstanceAt s true total) nodeNumber (rowAt (nodeInstanceAt s true total) count [] at) total begun seen left place
+Inv-loop s at id code count total limit keys₀ kinds₀ places₀ seen₀ begun₀ left₀ place₀ keys kinds places seen begun left place =
+    Row (nodeInstanceAt limit s true total) nodeNumber (rowAt (nodeInstanceAt limit s true total) count [] at) total begun seen left place
     × Sized (record { keys = keys₀; kinds = kinds₀; places = places₀ }) (record { keys = keys; kinds = kinds; places = places })
-    × Filling (nodeInstanceAt s true total) (λ i. rowOf id code (i .number) (i .place) ∷ []) (λ b x. Unit {0}) (rowAt (nodeInstanceAt s true total) count [] at)
+    × Filling (nodeInstanceAt limit s true total) (λ i. rowOf id code (i .number) (i .place) ∷ []) (λ b x. Unit {0}) (rowAt (nodeInstanceAt limit s true total) count [] at)
     (record { keys = keys₀; kinds = kinds₀; places = places₀ }) total (record { keys = keys; kinds = kinds; places = places }) begun left place
 
 abbrev μ-loop : tie.MeasureT-loop
-μ-loop s at id code count total keys₀ kinds₀ places₀ seen₀ begun₀ left₀ place₀ keys kinds places seen begun left place = left
+μ-loop s at id code count total limit keys₀ kinds₀ places₀ seen₀ begun₀ left₀ place₀ keys kinds places seen begun left place = left
 
 loop-holds : tie.Need-loop-holds Inv-loop μ-loop
 loop-holds c = (row-begin _ _ _ _ _, record { keys = refl; kinds = refl; places = refl }, filling-begin _ _ _ _ _ _ _ tt)
@@ -49,7 +49,7 @@ add-begun : tie.Need-add-begun Inv-loop μ-loop
 add-begun c =
     let d = c .before .before .before .before .before .before .before .before .before .before .before in
     let l = d .before .before .before .before .before .before .loop .inv .0 in
-    let h = instance-room nodeNumber _ _ (l .before) _ (sym (ap byteParsed (d .before .i .given .1)) ∙ d .before .before .before .node-instance-at .ensures _ _ (l .marks) (l .counted)) in
+    let h = instance-room _ nodeNumber _ _ (l .before) _ (sym (ap byteParsed (d .before .i .given .1)) ∙ d .before .before .before .node-instance-at .ensures _ _ (l .marks) (l .counted)) in
     omega (arith, h, l .counted)
 
 loop-again : tie.Need-loop-again Inv-loop μ-loop
@@ -62,7 +62,7 @@ loop-again c =
     let e = c .before .before .before .before .before .before .put-row .ensures in (
       row-next _ _ r z t (omega arith),
       sized-put _ _ _ _ (l .1) e,
-      filling-next _ _ _ (l .2) t (λ before a m g q. instance-put _ _ _ _ (a .number) (a .place) (node-instance-is _ _ _ _ z before q) (c .before .before .before .before .before .before .before .key .ensures) e),
+      filling-next _ _ _ (l .2) t (λ before a m g q. instance-put _ _ _ _ (a .number) (a .place) (node-instance-is _ _ _ _ _ z before q) (c .before .before .before .before .before .before .before .key .ensures) e),
     )
 
 same-length-4 : tie.Need-same-length-4 Inv-loop μ-loop

@@ -19,7 +19,7 @@ returns c =
     let t = b .before .before in
     let y = t .before .before in (
       byte-then′ _ _ _ (y .type-at .ensures) (t .t .given .1) (byte-then′ _ _ _ (b .byte-count-at .ensures) (n .n .given .1) (twice _ _ _ (row-counted _ _ _ _ (x .instances-at .ensures .0) (c .before .rest .given .1) refl))),
-      node-after-filled _ _ _ _ _ (sym (ap byteParsed (t .t .given .1)) ∙ y .type-at .ensures) (sym (ap byteParsed (n .n .given .1)) ∙ b .byte-count-at .ensures) (x .instances-at .ensures .1),
+      node-after-filled _ _ _ _ _ _ (sym (ap byteParsed (t .t .given .1)) ∙ y .type-at .ensures) (sym (ap byteParsed (n .n .given .1)) ∙ b .byte-count-at .ensures) (x .instances-at .ensures .1),
     )
 
 returns-2 : tie.Need-returns-2

@@ -14,9 +14,9 @@ returns c =
     let x = c .before .before .before .before .before .before .before .before .before in
     let t = x .before .before .before .before .before .before in
     let h = t .before .before in (
-      λ i before k e. node-told _ _ _ _ e
+      λ i before k e. node-told _ _ _ _ _ e
           (head-then _ _ _ (h .node-head-at .ensures i _ k) (t .top .given .1) (twice _ _ _ (row-counted _ _ _ _ (x .instances-at .ensures .0) (c .before .rest .given .1) refl))),
-      λ i before k e n m d. node-filled _ _ _ _ before e (sym (ap nodeHeadParsed (t .top .given .1)) ∙ h .node-head-at .ensures i _ k) (x .instances-at .ensures .1) n m d,
+      λ i before k e n m d. node-filled _ _ _ _ _ before e (sym (ap nodeHeadParsed (t .top .given .1)) ∙ h .node-head-at .ensures i _ k) (x .instances-at .ensures .1) n m d,
     )
 
 returns-2 : tie.Need-returns-2
@@ -24,16 +24,16 @@ returns-2 c =
     let x = c .before .before .before .before .before .before .before .before .before in
     let t = x .before .before .before .before .before .before in
     let h = t .before .before in (
-      λ i before k e. node-told _ _ _ _ e
+      λ i before k e. node-told _ _ _ _ _ e
           (head-then _ _ _ (h .node-head-at .ensures i _ k) (t .top .given .1) (twice _ _ _ (row-missed _ _ _ _ (x .instances-at .ensures .0) (c .before .rest2 .given .1) refl))),
-      λ i before k e n m d. unmade nodeElement (node-told nodeElement _ before _ e
+      λ i before k e n m d. unmade nodeElement (node-told _ nodeElement _ before _ e
           (head-then _ _ _ (h .node-head-at .ensures i _ k) (t .top .given .1) (twice _ _ _ (row-missed _ _ _ _ (x .instances-at .ensures .0) (c .before .rest2 .given .1) refl)))) d,
     )
 
 returns-3 : tie.Need-returns-3
 returns-3 c = (
-  λ i before k e. node-told _ _ _ _ e (head-stop _ _ _ (c .before .before .before .node-head-at .ensures i _ k) (c .before .top2 .given .1) refl),
-  λ i before k e n m d. unmade nodeElement (node-told nodeElement _ before _ e (head-stop _ _ _ (c .before .before .before .node-head-at .ensures i _ k) (c .before .top2 .given .1) refl)) d,
+  λ i before k e. node-told _ _ _ _ _ e (head-stop _ _ _ (c .before .before .before .node-head-at .ensures i _ k) (c .before .top2 .given .1) refl),
+  λ i before k e n m d. unmade nodeElement (node-told _ nodeElement _ before _ e (head-stop _ _ _ (c .before .before .before .node-head-at .ensures i _ k) (c .before .top2 .given .1) refl)) d,
 )
 
 pub node-at-spec : {M : Type 1} → statement M

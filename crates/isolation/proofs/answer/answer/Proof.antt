@@ -33,12 +33,12 @@ by-tables-requires c κs =
 
 returns : tie.Need-returns
 returns c =
-    λ x.
+    λ of x.
     let r = has-room _ _ _ _ _ _ _ (c .before .before .before .before .before .before .before .before .before .before .before .before .before .before .has-room .ensures) (c .before .before .before .before .before .before .before .before .before .before .before .before .before .if1 .taken) in
-    answer-is _ _ _ _ _ _ _ r _ _ (c .before .before .before .before .before .before .by-tables .ensures (cut-tabled _ _ _ _ _ _ _ x) (x .roots))
+    answer-is _ _ _ _ _ _ _ r _ _ (c .before .before .before .before .before .before .by-tables .ensures of (cut-tabled of _ _ _ _ _ _ _ x) (x .roots))
 
 returns-2 : tie.Need-returns-2
-returns-2 c = λ x. answer-short _ _ _ _ _ _ _ (x .registers-in) (x .nodes-in) (x .places-in) (c .before .has-room .ensures) (c .if1 .left) _ _
+returns-2 c = λ of x. answer-short _ _ _ _ _ _ _ (x .registers-in) (x .nodes-in) (x .places-in) (c .before .has-room .ensures) (c .if1 .left) _ _
 
 pub answer-spec : {M : Type 1} → statement M
 answer-spec =

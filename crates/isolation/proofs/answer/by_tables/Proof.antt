@@ -6,26 +6,26 @@ use Rattle.isolation.proofs.answer.by_tables.Statement.{statement}
 use Rattle.isolation.proofs.answer.by_tables.Tie as tie
 
 returns : tie.Need-returns
-returns c = λ t roots. small-type _ (λ i. c .before .before .before .before .before .before .before .before .before .before .before .shared-slice-known .given i .fits) _ _ _ _ _ _ _ _ _ _ t refl (c .if1 .taken)
+returns c = λ of t roots. small-type of _ (λ i. c .before .before .before .before .before .before .before .before .before .before .before .shared-slice-known .given i .fits) _ _ _ _ _ _ _ _ _ _ t refl (c .if1 .taken)
 
 returns-2 : tie.Need-returns-2
-returns-2 c = λ t roots. large-type _ (λ i. c .before .before .before .before .before .before .before .before .before .before .before .before .shared-slice-known .given i .fits) _ _ _ _ _ _ _ _ _ _ t refl (c .before .if1 .left) (c .if2 .taken)
+returns-2 c = λ of t roots. large-type of _ (λ i. c .before .before .before .before .before .before .before .before .before .before .before .before .shared-slice-known .given i .fits) _ _ _ _ _ _ _ _ _ _ t refl (c .before .if1 .left) (c .if2 .taken)
 
 returns-3 : tie.Need-returns-3
 returns-3 c =
-    λ t roots.
-    rootless _ (λ i. c .before .before .before .before .before .before .before .before .before .before .before .before .before .before .shared-slice-known .given i .fits) _ _ _ _ _ _ _ _ _ _ t (c .before .wanted-root .ensures (t .chip) (t .end) (t .accepted) roots (t .nodes-are)) (c .before .before .before .if1 .left) (c .before .before .if2 .left) (c .if3 .taken)
+    λ of t roots.
+    rootless of _ (λ i. c .before .before .before .before .before .before .before .before .before .before .before .before .before .before .shared-slice-known .given i .fits) _ _ _ _ _ _ _ _ _ _ t (c .before .wanted-root .ensures of (t .chip) (t .end) (t .accepted) roots (t .nodes-are)) (c .before .before .before .if1 .left) (c .before .before .if2 .left) (c .if3 .taken)
 
 returns-4 : tie.Need-returns-4
 returns-4 c =
-    λ t roots.
-    c .before .before .before .before .before .before .settle .ensures
-    (ready _ (λ i. c .before .before .before .before .before .before .before .before .before .before .before .before .before .before .before .before .before .before .before .before .before .before .before .before .before .before .shared-slice-known .given i .fits) _ _ _ [] _ _ _ _ _ _ t (c .before .before .before .before .before .before .before .before .before .before .before .before .before .wanted-root .ensures (t .chip) (t .end) (t .accepted) roots (t .nodes-are)) (c .before .before .before .before .before .before .before .before .before .before .before .before .before .before .before .if1 .left) (c .before .before .before .before .before .before .before .before .before .before .before .before .before .before .if2 .left) (c .before .before .before .before .before .before .before .before .before .before .before .before .if3 .left) (c .before .before .before .before .before .before .before .before .before .before .before .readings-fit .ensures) (c .before .before .before .before .before .before .before .before .before .before .if4 .taken))
+    λ of t roots.
+    c .before .before .before .before .before .before .settle .ensures of
+    (ready of _ (λ i. c .before .before .before .before .before .before .before .before .before .before .before .before .before .before .before .before .before .before .before .before .before .before .before .before .before .before .shared-slice-known .given i .fits) _ _ _ [] _ _ _ _ _ _ t (c .before .before .before .before .before .before .before .before .before .before .before .before .before .wanted-root .ensures of (t .chip) (t .end) (t .accepted) roots (t .nodes-are)) (c .before .before .before .before .before .before .before .before .before .before .before .before .before .before .before .if1 .left) (c .before .before .before .before .before .before .before .before .before .before .before .before .before .before .if2 .left) (c .before .before .before .before .before .before .before .before .before .before .before .before .if3 .left) (c .before .before .before .before .before .before .before .before .before .before .before .readings-fit .ensures) (c .before .before .before .before .before .before .before .before .before .before .if4 .taken))
 
 returns-5 : tie.Need-returns-5
 returns-5 c =
-    λ t roots.
-    unfitting _ (λ i. c .before .before .before .before .before .before .before .before .before .before .before .before .before .before .before .before .shared-slice-known .given i .fits) _ _ _ _ _ _ _ _ _ _ t (c .before .before .before .wanted-root .ensures (t .chip) (t .end) (t .accepted) roots (t .nodes-are)) (c .before .before .before .before .before .if1 .left) (c .before .before .before .before .if2 .left) (c .before .before .if3 .left) (c .before .readings-fit .ensures) (c .if4 .left)
+    λ of t roots.
+    unfitting of _ (λ i. c .before .before .before .before .before .before .before .before .before .before .before .before .before .before .before .before .shared-slice-known .given i .fits) _ _ _ _ _ _ _ _ _ _ t (c .before .before .before .wanted-root .ensures of (t .chip) (t .end) (t .accepted) roots (t .nodes-are)) (c .before .before .before .before .before .if1 .left) (c .before .before .before .before .if2 .left) (c .before .before .if3 .left) (c .before .readings-fit .ensures) (c .if4 .left)
 
 pub by-tables-spec : {M : Type 1} → statement M
 by-tables-spec =

@@ -1,10 +1,11 @@
 use borrow.Author.Needs.{needs}
+use Rattle.limits.specs.Classes.{full}
 use Rattle.isolation.proofs.ClassesLaws.{class-outcome}
 use Rattle.isolation.proofs.classes.isolate_full.Statement.{statement}
 use Rattle.isolation.proofs.classes.isolate_full.Tie as tie
 
 returns : tie.Need-returns
-returns c = class-outcome 1024 256 _ _ _ (c .before .before .before .before .before .before .before .before .before .before .before .isolate-in .ensures)
+returns c = class-outcome _ full _ _ _ (c .before .before .before .before .before .before .before .before .before .before .before .isolate-in .ensures)
 
 pub isolate-full-spec : {M : Type 1} → statement M
 isolate-full-spec =

@@ -1,24 +1,30 @@
 use mathlib.Core.Path.{refl, _∙_}
 use borrow.Author.Needs.{needs}
+use Rattle.limits.specs.declared.LimitSet
+use Rattle.limits.specs.declared.LimitSet.{LimitSet}
+use Rattle.limits.specs.Limits.{limitsOf}
 use Rattle.isolation.proofs.AnswerLaws.{file-refused}
 use Rattle.isolation.proofs.ClassesLaws.{unread-short, given-answer, given-refused}
 use Rattle.isolation.proofs.classes.isolate_in.Statement.{statement}
 use Rattle.isolation.proofs.classes.isolate_in.Tie as tie
 
 returns : tie.Need-returns
-returns c = unread-short _ _ _ _ _ (c .if1 .taken)
+unfolding limitsOf
+returns c = unread-short LimitSet.Library _ _ _ _ _ (c .if1 .taken)
 
 returns-2 : tie.Need-returns-2
+unfolding limitsOf
 returns-2 c =
     let x = c .before .before .before .before .before .before .before .before .before .before .before .before .before .before .before .before .before .before .before .before .before .before .before .before .before .before .before .before .before .before .before .before .before .before .examine-in .ensures in
     let e = c .before .before .before .before .before .before .before .before .before .before .before .before .before .before .before .before .e .given .1 in
     let y = x .1 _ e in
-    given-answer _ _ _ _ _ (c .before .before .before .before .before .before .before .before .before .before .before .before .before .before .before .before .before .before .before .before .before .before .before .before .before .before .before .before .before .before .before .before .before .before .before .before .before .before .before .before .before .before .before .if1 .left) _ (x .0) e y _ (c .before .before .before .before .before .before .before .before .before .before .before .before .before .before .before .before .before .before .before .before .before .before .before .before .before .wanted .given) (c .before .before .before .before .before .before .answer .ensures y)
+    given-answer LimitSet.Library _ _ _ _ _ (c .before .before .before .before .before .before .before .before .before .before .before .before .before .before .before .before .before .before .before .before .before .before .before .before .before .before .before .before .before .before .before .before .before .before .before .before .before .before .before .before .before .before .before .if1 .left) _ (x .0) e y _ (c .before .before .before .before .before .before .before .before .before .before .before .before .before .before .before .before .before .before .before .before .before .before .before .before .before .wanted .given) (c .before .before .before .before .before .before .answer .ensures LimitSet.Library y)
 
 returns-3 : tie.Need-returns-3
+unfolding limitsOf
 returns-3 c =
     let x = c .before .before .before .before .before .before .before .before .before .before .before .before .before .before .before .before .before .before .before .examine-in .ensures in
-    given-refused _ _ _ _ _ (c .before .before .before .before .before .before .before .before .before .before .before .before .before .before .before .before .before .before .before .before .before .before .before .before .before .before .before .before .if1 .left) _ (x .0) (c .before .e2 .given .1) refl (file-refused _ _ _ _ _)
+    given-refused LimitSet.Library _ _ _ _ _ (c .before .before .before .before .before .before .before .before .before .before .before .before .before .before .before .before .before .before .before .before .before .before .before .before .before .before .before .before .if1 .left) _ (x .0) (c .before .e2 .given .1) refl (file-refused LimitSet.Library _ _ _ _ _)
 
 pub isolate-in-spec : {M : Type 1} → statement M
 isolate-in-spec =

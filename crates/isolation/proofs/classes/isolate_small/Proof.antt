@@ -1,10 +1,11 @@
 use borrow.Author.Needs.{needs}
+use Rattle.limits.specs.Classes.{small}
 use Rattle.isolation.proofs.ClassesLaws.{class-outcome}
 use Rattle.isolation.proofs.classes.isolate_small.Statement.{statement}
 use Rattle.isolation.proofs.classes.isolate_small.Tie as tie
 
 returns : tie.Need-returns
-returns c = class-outcome 32 8 _ _ _ (c .before .before .before .before .before .before .before .before .before .before .before .isolate-in .ensures)
+returns c = class-outcome _ small _ _ _ (c .before .before .before .before .before .before .before .before .before .before .before .isolate-in .ensures)
 
 pub isolate-small-spec : {M : Type 1} → statement M
 isolate-small-spec =

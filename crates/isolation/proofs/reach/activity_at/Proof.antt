@@ -6,8 +6,8 @@ use Rattle.isolation.proofs.reach.activity_at.Tie as tie
 
 returns : tie.Need-returns
 returns c =
-    λ i chip end k e v q p.
-    entry-active _ _ _ _ e _ (entry-again _ (λ j. c .before .before .before .before .before .before .shared-slice-known .given j .fits) chip end v k e q) (c .before .wanted-rule .ensures chip end k e v q p)
+    λ i of chip end k e v q p.
+    entry-active _ _ _ _ e _ (entry-again of _ (λ j. c .before .before .before .before .before .before .shared-slice-known .given j .fits) chip end v k e q) (c .before .wanted-rule .ensures of chip end k e v q p)
     (c .active-at .ensures .0) (c .active-at .ensures .1 i)
 
 pub activity-at-spec : {M : Type 1} → statement M

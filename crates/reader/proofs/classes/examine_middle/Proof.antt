@@ -1,5 +1,7 @@
 use mathlib.Core.Path.{sym, _∙_, ap}
 use borrow.Author.Needs.{needs}
+use Rattle.limits.specs.Classes.{middle}
+use Rattle.limits.specs.Limits.{limitsOf}
 use Rattle.reader.specs.Layout.{layoutParsed}
 use Rattle.reader.proofs.ClassesLaws.{class-answer}
 use Rattle.reader.proofs.WholeLaws.{whole-out}
@@ -7,9 +9,10 @@ use Rattle.reader.proofs.classes.examine_middle.Statement.{statement}
 use Rattle.reader.proofs.classes.examine_middle.Tie as tie
 
 returns : tie.Need-returns
+unfolding limitsOf
 returns c =
     let x = c .before .before .before .before .before .before .before .before .examine-in .ensures in
-    (class-answer 256 64 _ (x .0), λ l e. ap layoutParsed e ∙ sym (whole-out _ (x .1 l e .whole) .layout))
+    (class-answer _ middle _ (x .0), λ l e. ap layoutParsed e ∙ sym (whole-out _ _ (x .1 l e .whole) .layout))
 
 pub examine-middle-spec : {M : Type 1} → statement M
 examine-middle-spec =

@@ -29,18 +29,18 @@ returns c =
     let room = b ∙ same-room _ (c .before .before .before .before .before .before .before .before .before .before .before .before .before .before .before .before .before .before .before .before .before .before .before .before .before .before .before .before .before .before .before .keys .given) (c .before .before .before .before .before .before .before .before .before .before .before .before .before .before .before .before .before .before .before .before .before .before .before .before .before .before .before .before .before .kinds .given) (c .before .before .before .before .before .before .before .before .before .before .before .before .before .before .before .before .before .before .before .before .before .before .before .before .before .before .before .names .given) (c .before .before .before .before .before .before .before .before .before .before .before .before .before .before .before .before .before .before .before .before .before .before .before .before .before .wanted .given) (c .before .before .before .before .before .before .before .before .before .before .before .before .before .before .before .before .before .before .before .before .before .before .before .places .given) _ _ in
     let r = roomy _ _ _ (sym t ∙ room) in
     let clean = ap nextParsed (c .enum-told .given .1) in (
-      in-roomy _ _ w room t (examined-clean _ w (λ chip layout file.
-          let d = laid _ (λ i. bytes i .fits) chip layout file in
-          j .0 chip file (d .roots) (laid-tables d _ _ _ _ _ _ r (x .1 .1 _ _ _ e (d .registers)) (x .1 .0 _ _ _ e (d .nodes))) (omega (arith, r .child, d .nodeCount))) clean),
+      in-roomy _ _ _ w room t (examined-clean _ _ w (λ chip layout file.
+          let d = laid _ _ (λ i. bytes i .fits) chip layout file in
+          j .0 _ chip file (d .roots) (laid-tables _ d _ _ _ _ _ _ r (x .1 .1 _ _ _ e (d .registers)) (x .1 .0 _ _ _ e (d .nodes))) (omega (arith, r .child, d .nodeCount))) clean),
       λ k q.
-          let d = laid-is _ (λ i. bytes i .fits) _ w in
-          let v = clean-verdict _ w (λ chip layout file.
-          let d = laid _ (λ i. bytes i .fits) chip layout file in
-          j .0 chip file (d .roots) (laid-tables d _ _ _ _ _ _ r (x .1 .1 _ _ _ e (d .registers)) (x .1 .0 _ _ _ e (d .nodes))) (omega (arith, r .child, d .nodeCount))) clean in
-          let g = laid-tables d _ _ _ _ _ _ r (x .1 .1 _ _ _ e (d .registers)) (x .1 .0 _ _ _ e (d .nodes)) in
-          let z = j .1 _ _ (c .enum-told .given .1) (file-is _ (λ i. bytes i .fits) _ w) g in
+          let d = laid-is _ _ (λ i. bytes i .fits) _ w in
+          let v = clean-verdict _ _ w (λ chip layout file.
+          let d = laid _ _ (λ i. bytes i .fits) chip layout file in
+          j .0 _ chip file (d .roots) (laid-tables _ d _ _ _ _ _ _ r (x .1 .1 _ _ _ e (d .registers)) (x .1 .0 _ _ _ e (d .nodes))) (omega (arith, r .child, d .nodeCount))) clean in
+          let g = laid-tables _ d _ _ _ _ _ _ r (x .1 .1 _ _ _ e (d .registers)) (x .1 .0 _ _ _ e (d .nodes)) in
+          let z = j .1 _ _ _ (c .enum-told .given .1) (file-is _ _ (λ i. bytes i .fits) _ w) g in
           let o = roomy _ _ _ (sym t ∙ b) in
-          same-layout _ q (examined _ (λ i. bytes i .fits) _ w v _ (o .keys) (o .names) (o .places) (r .child) (g .keys-are) (z .0) (g .nodes-are) (g .places-are) (z .1)),
+          same-layout _ _ q (examined _ _ (λ i. bytes i .fits) _ w v _ (o .keys) (o .names) (o .places) (r .child) (g .keys-are) (z .0) (g .nodes-are) (g .places-are) (z .1)),
     )
 
 returns-2 : tie.Need-returns-2
@@ -55,9 +55,9 @@ returns-2 c =
     let j = c .before .before .before .before .before .before .before .before .before .judge .ensures in
     let room = b ∙ same-room _ (c .before .before .before .before .before .before .before .before .before .before .before .before .before .before .before .before .before .before .before .before .before .before .before .before .before .before .before .before .before .before .before .before .keys .given) (c .before .before .before .before .before .before .before .before .before .before .before .before .before .before .before .before .before .before .before .before .before .before .before .before .before .before .before .before .before .before .kinds .given) (c .before .before .before .before .before .before .before .before .before .before .before .before .before .before .before .before .before .before .before .before .before .before .before .before .before .before .before .before .names .given) (c .before .before .before .before .before .before .before .before .before .before .before .before .before .before .before .before .before .before .before .before .before .before .before .before .before .before .wanted .given) (c .before .before .before .before .before .before .before .before .before .before .before .before .before .before .before .before .before .before .before .before .before .before .before .before .places .given) _ _ in
     let r = roomy _ _ _ (sym t ∙ room) in (
-      in-roomy _ _ w room t (examined-faulty _ w (λ chip layout file.
-          let d = laid _ (λ i. bytes i .fits) chip layout file in
-          j .0 chip file (d .roots) (laid-tables d _ _ _ _ _ _ r (x .1 .1 _ _ _ e (d .registers)) (x .1 .0 _ _ _ e (d .nodes))) (omega (arith, r .child, d .nodeCount))) (ap nextParsed (c .before .f .given .1))),
+      in-roomy _ _ _ w room t (examined-faulty _ _ w (λ chip layout file.
+          let d = laid _ _ (λ i. bytes i .fits) chip layout file in
+          j .0 _ chip file (d .roots) (laid-tables _ d _ _ _ _ _ _ r (x .1 .1 _ _ _ e (d .registers)) (x .1 .0 _ _ _ e (d .nodes))) (omega (arith, r .child, d .nodeCount))) (ap nextParsed (c .before .f .given .1))),
       λ k q. no-layout q,
     )
 
@@ -65,11 +65,11 @@ returns-3 : tie.Need-returns-3
 unfolding making
 returns-3 c =
     let w = sym (ap layoutParsed (c .before .before .before .w .given .1)) ∙ c .before .before .before .before .before .before .before .before .before .before .before .before .before .before .before .whole .ensures .0 in
-    (in-short _ _ w (c .before .has-room .ensures ∙ same-room _ (c .before .before .before .before .before .before .before .before .before .before .before .before .before .before .keys .given) (c .before .before .before .before .before .before .before .before .before .before .before .before .kinds .given) (c .before .before .before .before .before .before .before .before .before .before .names .given) (c .before .before .before .before .before .before .before .before .wanted .given) (c .before .before .before .before .before .before .places .given) _ _) (c .if1 .left), λ k q. no-layout q)
+    (in-short _ _ _ w (c .before .has-room .ensures ∙ same-room _ (c .before .before .before .before .before .before .before .before .before .before .before .before .before .before .keys .given) (c .before .before .before .before .before .before .before .before .before .before .before .before .kinds .given) (c .before .before .before .before .before .before .before .before .before .before .names .given) (c .before .before .before .before .before .before .before .before .wanted .given) (c .before .before .before .before .before .before .places .given) _ _) (c .if1 .left), λ k q. no-layout q)
 
 returns-4 : tie.Need-returns-4
 unfolding making
-returns-4 c = (in-refused _ _ (sym (ap layoutParsed (c .before .w2 .given .1)) ∙ c .before .before .before .before .before .before .before .before .before .before .before .before .before .whole .ensures .0), λ k q. no-layout q)
+returns-4 c = (in-refused _ _ _ (sym (ap layoutParsed (c .before .w2 .given .1)) ∙ c .before .before .before .before .before .before .before .before .before .before .before .before .before .whole .ensures .0), λ k q. no-layout q)
 
 pub examine-in-spec : {M : Type 1} → statement M
 examine-in-spec =

@@ -20,7 +20,7 @@ slice-aggregate-table-faults-5 : tie.Need-slice-aggregate-table-faults-5
 slice-aggregate-table-faults-5 c = sym (length-take-le _ _ (c .before .before .before .before .before .before .before .before .before .before .before .before .before .before .pre .4))
 
 returns : tie.Need-returns
-returns c = let x = c .before .before .before .before .before .before .table-faults .ensures in (λ chip file roots tables room. x .0 chip _ file roots tables room, λ chip next e file tables. x .1 chip _ next e file tables)
+returns c = let x = c .before .before .before .before .before .before .table-faults .ensures in (λ of chip file roots tables room. x .0 of chip _ file roots tables room, λ of chip next e file tables. x .1 of chip _ next e file tables)
 
 pub judge-spec : {M : Type 1} → statement M
 judge-spec =

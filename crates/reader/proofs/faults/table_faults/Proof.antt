@@ -15,15 +15,15 @@ returns c =
     let e = c .before .before .before .f .given .1 in
     let j = c .before .before .before .before .before .before .before .before .before .before .before .before .before .before .before .before .before .enter-all .ensures in
     let k = c .before .before .before .before .before .before .before .before .before .before .before .before .before .enter-all2 .ensures in (
-      λ chip end file roots tables room.
-          let a = j (few-registers _ (λ i. s i .fits) file _ (tables .keys-are)) in
-          let b = k (few-nodes _ (λ i. s i .fits) file _ (tables .nodes-are)) in
-          all-cycles chip end (n .0 chip end file roots tables a b) (ap nextParsed e)
-          (λ clean. c .cycle-fault .ensures _ chip end _ (λ i. s i .fits) file clean (tables .places-are) room (n .1 chip end _ e file tables a b)),
-      λ chip end next r file tables.
-          let a = j (few-registers _ (λ i. s i .fits) file _ (tables .keys-are)) in
-          let b = k (few-nodes _ (λ i. s i .fits) file _ (tables .nodes-are)) in
-          (a, n .1 chip end _ e file tables a b),
+      λ of chip end file roots tables room.
+          let a = j (few-registers of _ (λ i. s i .fits) file _ (tables .keys-are)) in
+          let b = k (few-nodes of _ (λ i. s i .fits) file _ (tables .nodes-are)) in
+          all-cycles chip end (n .0 of chip end file roots tables a b) (ap nextParsed e)
+          (λ clean. c .cycle-fault .ensures of _ chip end _ (λ i. s i .fits) file clean (tables .places-are) room (n .1 of chip end _ e file tables a b)),
+      λ of chip end next r file tables.
+          let a = j (few-registers of _ (λ i. s i .fits) file _ (tables .keys-are)) in
+          let b = k (few-nodes of _ (λ i. s i .fits) file _ (tables .nodes-are)) in
+          (a, n .1 of chip end _ e file tables a b),
     )
 
 returns-2 : tie.Need-returns-2
@@ -32,11 +32,11 @@ returns-2 c =
     let n = c .before .before .before .before .before .name-faults .ensures in
     let j = c .before .before .before .before .before .before .before .before .before .before .before .before .before .before .before .enter-all .ensures in
     let k = c .before .before .before .before .before .before .before .before .before .before .before .enter-all2 .ensures in (
-      λ chip end file roots tables room.
-          let a = j (few-registers _ (λ i. s i .fits) file _ (tables .keys-are)) in
-          let b = k (few-nodes _ (λ i. s i .fits) file _ (tables .nodes-are)) in
-          all-refused chip end (n .0 chip end file roots tables a b) (ap nextParsed (c .before .f2 .given .1)),
-      λ chip end next r file tables. let z : _≡_ {A = ℕ} 0 1 = cc in absurd (omega arith),
+      λ of chip end file roots tables room.
+          let a = j (few-registers of _ (λ i. s i .fits) file _ (tables .keys-are)) in
+          let b = k (few-nodes of _ (λ i. s i .fits) file _ (tables .nodes-are)) in
+          all-refused chip end (n .0 of chip end file roots tables a b) (ap nextParsed (c .before .f2 .given .1)),
+      λ of chip end next r file tables. let z : _≡_ {A = ℕ} 0 1 = cc in absurd (omega arith),
     )
 
 pub table-faults-spec : {M : Type 1} → statement M

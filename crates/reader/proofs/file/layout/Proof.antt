@@ -13,7 +13,7 @@ returns c = (
       (section-then _ _ _ (c .before .before .before .before .before .before .before .before .before .before .before .before .before .before .before .before .before .before .before .before .before .before .before .before .registers-at .ensures .0) (c .before .before .before .before .before .before .before .before .before .before .before .before .before .before .before .before .before .before .first .given .1) λ rs p.
       section-then _ _ _ (c .before .before .before .before .before .before .before .before .before .before .before .before .before .nodes-at .ensures .0) (c .before .before .before .before .before .second .given .1) λ ns q.
       last-makes _ _ _ (c .before .before .before .roots-at .ensures) (c .before .third .given .1) λ ts r. summary-is _ rs ns ts _ _ _ _ p q r),
-  (λ l ns m e d. c .before .before .before .before .before .before .before .before .before .before .before .before .before .nodes-at .ensures .1 ns m (same-nodes _ e ns m d), λ l rs m e d. c .before .before .before .before .before .before .before .before .before .before .before .before .before .before .before .before .before .before .before .before .before .before .before .before .registers-at .ensures .1 rs m (same-registers _ e rs m d)),
+  (λ l ns m e d. c .before .before .before .before .before .before .before .before .before .before .before .before .before .nodes-at .ensures .1 ns m (same-nodes _ _ e ns m d), λ l rs m e d. c .before .before .before .before .before .before .before .before .before .before .before .before .before .before .before .before .before .before .before .before .before .before .before .before .registers-at .ensures .1 rs m (same-registers _ _ e rs m d)),
 )
 
 returns-2 : tie.Need-returns-2

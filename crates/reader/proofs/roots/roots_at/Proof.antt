@@ -1,6 +1,6 @@
 use mathlib.Core.Path.{refl}
 use borrow.Author.Needs.{needs}
-use Rattle.format.specs.Limits.{root}
+use Rattle.format.specs.Keywords.{root}
 use Rattle.format.specs.FileLayout.{rootsAt}
 use Rattle.fields.proofs.Steps.{steps, next-then′, byte-then′, forgot-makes-no}
 use Rattle.reader.proofs.RootLaws.{roots-counted}

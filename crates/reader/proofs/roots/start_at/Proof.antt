@@ -1,6 +1,6 @@
 use borrow.Author.Needs.{needs}
 use Rattle.format.specs.FileLayout.{startAt}
-use Rattle.format.specs.Limits.{chipdata}
+use Rattle.format.specs.Keywords.{chipdata}
 use Rattle.fields.proofs.Steps.{steps}
 use Rattle.reader.proofs.roots.start_at.Statement.{statement}
 use Rattle.reader.proofs.roots.start_at.Tie as tie

@@ -2,7 +2,7 @@ use mathlib.Core.Path.{sym, _∙_, ap}
 use borrow.Author.Needs.{needs}
 use Rattle.fields.specs.Views.{nextParsed, byteParsed}
 use Rattle.format.specs.FileLayout.{rootsAt}
-use Rattle.format.specs.Limits.{root}
+use Rattle.format.specs.Keywords.{root}
 use Rattle.index.proofs.Again.{section-rows, section-named, section-counted}
 use Rattle.references.proofs.roots.root_position.Statement.{statement}
 use Rattle.references.proofs.roots.root_position.Tie as tie

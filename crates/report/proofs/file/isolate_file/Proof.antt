@@ -1,33 +1,6 @@
-use mathlib.Core.Path.{sym, _∙_, ap}
-use Rattle.isolation.proofs.ClassesLaws.{class-exact, class-kept, full-outcome}
-use Rattle.report.specs.Report.{isolateFile}
-use Rattle.report.proofs.FileLaws.{file-number}
 use borrow.Author.Needs.{needs}
 use Rattle.report.proofs.file.isolate_file.Statement.{statement}
 use Rattle.report.proofs.file.isolate_file.Tie as tie
 
-returns : tie.Need-returns
-returns c = full-outcome _ (λ i. c .before .before .before .before .before .before .before .shared-slice-known .given i .fits) _ _ (c .before .before .isolate-full .ensures)
-
-returns-2 : tie.Need-returns-2
-returns-2 c = class-exact _ _ _ _ _ _ (c .before .before .before .before .isolate-small .ensures) (sym (c .before .is-exact .ensures) ∙ c .if2 .taken)
-
-returns-3 : tie.Need-returns-3
-returns-3 c =
-    let k = class-kept _ _ _ _ _ _ (c .before .before .before .before .before .before .before .before .isolate-small .ensures) (file-number _ _ _ _ (λ i. c .before .before .before .before .before .before .before .before .before .before .before .before .before .shared-slice-known .given i .fits)) (sym (c .before .before .before .before .before .is-exact .ensures) ∙ c .before .before .before .before .if2 .left) in
-    full-outcome _ (λ i. c .before .before .before .before .before .before .before .before .before .before .before .before .before .shared-slice-known .given i .fits) _ _ (c .before .before .isolate-full2 .ensures) ∙ ap (isolateFile _ _ _) k
-
 pub isolate-file-spec : {M : Type 1} → statement M
-isolate-file-spec =
-    tie.close
-    (tie.spec
-    (λ c κs. search needs)
-    (λ c. search needs)
-    returns
-    (λ c κs. search needs)
-    (λ c κs. search needs)
-    (λ c. search needs)
-    returns-2
-    (λ c κs. search needs)
-    (λ c. search needs)
-    returns-3)
+isolate-file-spec = tie.close (tie.spec (λ c κs. search needs) (λ c κs. search needs) (λ c. search needs) (λ c. c .before .before .isolate-with .ensures))

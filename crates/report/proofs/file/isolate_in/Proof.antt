@@ -1,6 +1,9 @@
 use mathlib.Core.Path.{refl, _∙_}
 use native.Mathlib.Omega.{arith}
 use borrow.Author.Tests.{not-true, not-false}
+use Rattle.limits.specs.declared.LimitSet
+use Rattle.limits.specs.declared.LimitSet.{LimitSet}
+use Rattle.limits.specs.Limits.{limitsOf}
 use Rattle.isolation.proofs.ClassesLaws.{unread-short, given-answer, given-refused}
 use Rattle.report.proofs.FileLaws.{answer-file, readings-room, readings-short, readings-in, both-in}
 use borrow.Author.Needs.{needs}
@@ -8,12 +11,15 @@ use Rattle.report.proofs.file.isolate_in.Statement.{statement}
 use Rattle.report.proofs.file.isolate_in.Tie as tie
 
 returns : tie.Need-returns
+unfolding limitsOf
 returns c = readings-short _ _ _ (c .before .both-fit .ensures) _ _ _ (not-true _ (c .if1 .taken))
 
 returns-2 : tie.Need-returns-2
-returns-2 c = readings-room _ _ _ (c .before .before .both-fit .ensures) _ _ _ (not-false _ (c .before .if1 .left)) (unread-short _ _ _ _ _ (c .if2 .taken))
+unfolding limitsOf
+returns-2 c = readings-room _ _ _ (c .before .before .both-fit .ensures) _ _ _ (not-false _ (c .before .if1 .left)) (unread-short LimitSet.Program _ _ _ _ _ (c .if2 .taken))
 
 returns-3 : tie.Need-returns-3
+unfolding limitsOf
 returns-3 c =
     let x = c .before .before .before .before .before .before .before .before .before .before .before .before .before .before .before .before .before .before .before .before .before .before .before .before .before .before .before .before .before .before .before .before .before .before .before .before .before .before .before .before .examine-in .ensures in
     let e = c .before .before .before .before .before .before .before .before .before .before .before .before .before .before .before .before .before .before .before .before .before .before .e .given .1 in
@@ -22,13 +28,14 @@ returns-3 c =
     let b = both-in _ _ _ (c .before .before .before .before .before .before .before .before .before .before .before .before .before .before .before .before .before .before .before .before .before .before .before .before .before .before .before .before .before .before .before .before .before .before .before .before .before .before .before .before .before .before .before .before .before .before .before .before .before .before .before .both-fit .ensures) h in
     let k = c .before .before .before .before .before .before .before .before .before .before .before .before .before .before .before .before .before .before .before .before .before .before .before .before .before .before .before .before .before .before .before .before .before .before .before .before .before .before .before .keys .given in
     readings-room _ _ _ (c .before .before .before .before .before .before .before .before .before .before .before .before .before .before .before .before .before .before .before .before .before .before .before .before .before .before .before .before .before .before .before .before .before .before .before .before .before .before .before .before .before .before .before .before .before .before .before .before .before .before .before .both-fit .ensures) _ _ _ h
-    (given-answer _ _ _ _ _ (c .before .before .before .before .before .before .before .before .before .before .before .before .before .before .before .before .before .before .before .before .before .before .before .before .before .before .before .before .before .before .before .before .before .before .before .before .before .before .before .before .before .before .before .before .before .before .before .before .before .if2 .left) _ (x .0) e y _ (c .before .before .before .before .before .before .before .before .before .before .before .before .before .before .before .before .before .before .before .before .before .before .before .before .before .before .before .before .before .before .before .wanted .given)
-    (readings-in _ _ _ (omega (arith, b .0, k, y .registers-in)) (omega (arith, b .1, k, y .registers-in)) _ _ _ (c .before .before .before .before .before .before .before .before .before .before .isolate-named .ensures y)))
+    (given-answer LimitSet.Program _ _ _ _ _ (c .before .before .before .before .before .before .before .before .before .before .before .before .before .before .before .before .before .before .before .before .before .before .before .before .before .before .before .before .before .before .before .before .before .before .before .before .before .before .before .before .before .before .before .before .before .before .before .before .before .if2 .left) _ (x .0) e y _ (c .before .before .before .before .before .before .before .before .before .before .before .before .before .before .before .before .before .before .before .before .before .before .before .before .before .before .before .before .before .before .before .wanted .given)
+    (readings-in _ _ _ (omega (arith, b .0, k, y .registers-in)) (omega (arith, b .1, k, y .registers-in)) _ _ _ (c .before .before .before .before .before .before .before .before .before .before .isolate-named .ensures LimitSet.Program y)))
 
 returns-4 : tie.Need-returns-4
+unfolding limitsOf
 returns-4 c =
     readings-room _ _ _ (c .before .before .before .before .before .before .before .before .before .before .before .before .before .before .before .before .before .before .before .before .before .before .before .before .before .before .before .before .before .before .both-fit .ensures) _ _ _ (not-false _ (c .before .before .before .before .before .before .before .before .before .before .before .before .before .before .before .before .before .before .before .before .before .before .before .before .before .before .before .before .before .if1 .left))
-    (given-refused _ _ _ _ _ (c .before .before .before .before .before .before .before .before .before .before .before .before .before .before .before .before .before .before .before .before .before .before .before .before .before .before .before .before .if2 .left) _ (c .before .before .before .before .before .before .before .before .before .before .before .before .before .before .before .before .before .before .before .examine-in .ensures .0) (c .before .e2 .given .1) refl (answer-file _ _ _ _))
+    (given-refused LimitSet.Program _ _ _ _ _ (c .before .before .before .before .before .before .before .before .before .before .before .before .before .before .before .before .before .before .before .before .before .before .before .before .before .before .before .before .if2 .left) _ (c .before .before .before .before .before .before .before .before .before .before .before .before .before .before .before .before .before .before .before .examine-in .ensures .0) (c .before .e2 .given .1) refl (answer-file _ _ _ _ _))
 
 pub isolate-in-spec : {M : Type 1} → statement M
 isolate-in-spec =

@@ -8,10 +8,10 @@ use Rattle.report.proofs.file.isolate_named.Statement.{statement}
 use Rattle.report.proofs.file.isolate_named.Tie as tie
 
 returns : tie.Need-returns
-returns c = λ x. absurd (omega (arith, x .registers-in, c .if1 .taken))
+returns c = λ of x. absurd (omega (arith, x .registers-in, c .if1 .taken))
 
 returns-2 : tie.Need-returns-2
-returns-2 c = λ x. readings-short _ _ _ (c .before .both-fit .ensures) _ _ _ (not-true _ (c .if2 .taken))
+returns-2 c = λ of x. readings-short _ _ _ (c .before .both-fit .ensures) _ _ _ (not-true _ (c .if2 .taken))
 
 slice-aggregate-decode-named : tie.Need-slice-aggregate-decode-named
 slice-aggregate-decode-named c = sym (length-take-le _ _ (c .before .before .before .if1 .left))
@@ -42,15 +42,15 @@ slice-aggregate-answer-2 c =
 
 returns-3 : tie.Need-returns-3
 returns-3 c =
-    λ x.
+    λ of x.
     let h = not-false _ (c .before .before .before .before .before .before .before .before .before .before .before .before .before .before .before .before .before .before .before .before .if2 .left) in
     let b = both-in _ _ _ (c .before .before .before .before .before .before .before .before .before .before .before .before .before .before .before .before .before .before .before .before .before .both-fit .ensures) h in
     let d = c .before .before .before .before .before .before .before .before .before .before .before .before .before .before .before .before .decode-named .ensures in
     let k = c .before .before .before .before .before .before .before .before .before .before .before .before .before .before .before .before .before .before .before .before .before .before .before .before .before .before .before .before .before .before .before .before .before .before .before .args .keys .now in
     let f = c .before .before .before .before .before .before .before .before .before .before .before .before .before .before .before .before .before .before .before .before .before .before .if1 .left in
     readings-answer _ _ _ (c .before .before .before .before .before .before .before .before .before .before .before .before .before .before .before .before .before .before .before .before .before .both-fit .ensures) _ _ _ h
-    (decoded-is _ (λ i. c .before .before .before .before .before .before .before .before .before .before .before .before .before .before .before .before .before .before .before .before .before .before .before .before .before .before .before .before .before .before .before .before .before .before .shared-slice-known .given i .fits) (x .accepted) _ _ _ (x .keys-are) _ _ (first-in k f (b .0)) (first-in k f (b .1)) (d .0) (d .1 .1 .0) (d .1 .1 .1))
-    (c .before .before .before .before .before .before .answer .ensures x)
+    (decoded-is _ _ (λ i. c .before .before .before .before .before .before .before .before .before .before .before .before .before .before .before .before .before .before .before .before .before .before .before .before .before .before .before .before .before .before .before .before .before .before .shared-slice-known .given i .fits) (x .accepted) _ _ _ (x .keys-are) _ _ (first-in k f (b .0)) (first-in k f (b .1)) (d .0) (d .1 .1 .0) (d .1 .1 .1))
+    (c .before .before .before .before .before .before .answer .ensures of x)
 
 pub isolate-named-spec : {M : Type 1} → statement M
 isolate-named-spec =

@@ -1,10 +1,11 @@
+use Rattle.limits.specs.Classes.{small}
 use Rattle.report.proofs.FileLaws.{class-room}
 use borrow.Author.Needs.{needs}
 use Rattle.report.proofs.file.isolate_small.Statement.{statement}
 use Rattle.report.proofs.file.isolate_small.Tie as tie
 
 returns : tie.Need-returns
-returns c = class-room 32 8 _ _ _ (c .before .before .before .before .before .before .before .before .before .before .before .before .before .isolate-in .ensures)
+returns c = class-room _ small _ _ _ (c .before .before .before .before .before .before .before .before .before .before .before .before .before .isolate-in .ensures)
 
 pub isolate-small-spec : {M : Type 1} → statement M
 isolate-small-spec =

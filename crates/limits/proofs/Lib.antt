@@ -1,0 +1,2 @@
+-- The laws of the limits.
+pub mod LimitsLaws

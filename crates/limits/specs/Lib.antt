@@ -1,0 +1,3 @@
+-- The limits of a chip data file.
+pub mod Limits
+pub mod Classes

@@ -1,0 +1,30 @@
+use mathlib.Core.Path.{sym, _∙_, ap}
+use borrow.Author.Needs.{needs}
+use Rattle.limits.specs.Classes.{large}
+use Rattle.limits.specs.Limits.{limitsOf}
+use Rattle.reader.specs.Layout.{layoutParsed}
+use Rattle.reader.proofs.ClassesLaws.{class-answer}
+use Rattle.reader.proofs.WholeLaws.{whole-out}
+use Rattle.reader.proofs.classes.examine_large.Statement.{statement}
+use Rattle.reader.proofs.classes.examine_large.Tie as tie
+
+returns : tie.Need-returns
+unfolding limitsOf
+returns c =
+    let x = c .before .before .before .before .before .before .before .before .examine-in .ensures in
+    (class-answer _ large _ (x .0), λ l e. ap layoutParsed e ∙ sym (whole-out _ _ (x .1 l e .whole) .layout))
+
+pub examine-large-spec : {M : Type 1} → statement M
+examine-large-spec =
+    tie.close
+    (tie.spec
+    (λ c. search needs)
+    (λ c. search needs)
+    (λ c. search needs)
+    (λ c. search needs)
+    (λ c. search needs)
+    (λ c. search needs)
+    (λ c. search needs)
+    (λ c. search needs)
+    (λ c κs. search needs)
+    returns)
