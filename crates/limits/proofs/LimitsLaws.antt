@@ -1,4 +1,4 @@
--- Neither set of limits is above the library's, and both let a file have something.
+-- Neither set of limits is above the library's.
 use Prim.Native.Nat.{_≤_}
 use native.Mathlib.Omega.{arith}
 use Rattle.limits.specs.declared.LimitSet

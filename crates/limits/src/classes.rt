@@ -28,7 +28,7 @@ pub const LARGE_NODES: usize = crate::PROGRAM_NODE_INSTANCES;
 
 pub const FULL_NODES: usize = crate::NODE_INSTANCES;
 
-// How many classes are larger than that of a file of so many bytes. One that is too long is refused without a table, so that its class is the small one.
+// How many classes are larger than that of a file of so many bytes. One that is too long for the library is refused without a table, so that its class is the small one.
 pub fn larger_classes(bytes: usize) -> usize
     ensures { λ r. ⌜ r ≤ 3 ⌝ }
 {
