@@ -75,8 +75,9 @@ extern "C" {
 #define LUTEMARBLE_ISOLATE_STACK 655360
 #define LUTEMARBLE_REPORT_STACK 327680
 
-/* The checker, by the limits LUTEMARBLE_FILE_BYTES and so on. `out` gets 8 numbers: refusal number, place, and for an accepted file the model/level and the counts of
- * registers, register instances, nodes, node instances and roots (all 0 where it is refused).
+/* The checker, by the limits LUTEMARBLE_FILE_BYTES and so on. `out` gets 8 numbers: refusal number, place, and for an
+ * accepted file the model/level and the counts of registers, register instances, nodes, node instances and roots (all 0
+ * where it is refused).
  * Returns the refusal number, 0 for an accepted file. */
 uint64_t lutemarble_check(const uint8_t *file, size_t file_bytes, uint64_t *out, size_t out_places);
 

@@ -51,15 +51,28 @@ pub fn case(random: &mut Random) -> Case {
         55 if random.one_in(8) => too_long(random, map.bytes),
         _ => damaged_file(random, &map),
     };
-    let (words, read) = readings(random, register_instances);
+    case_on(random, file, register_instances, &attention_types, 2)
+}
+
+/// A case on a file, with readings that mostly fit so many register instances and
+/// a type that mostly is one of `with_root`. In one of `silenced` cases some
+/// children show nothing.
+fn case_on(
+    random: &mut Random,
+    file: Vec<u8>,
+    instances: usize,
+    with_root: &[u8],
+    silenced: usize,
+) -> Case {
+    let (words, read) = readings(random, instances);
     let mut case = Case {
-        attention_type: attention_type(random, &attention_types),
+        attention_type: attention_type(random, with_root),
         file,
         words,
         read,
         room: room(random),
     };
-    if random.one_in(2) {
+    if random.one_in(silenced) {
         silent::silence_children(random, &mut case);
     }
     case

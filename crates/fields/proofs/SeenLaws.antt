@@ -141,9 +141,6 @@ pub tells-new : (largest : ℕ) (ids : List ℕ) {numbers : List ℕ} → Tells 
 unfolding newAfter
 tells-new largest ids {numbers} t l = record { tells = λ x. ⊎-elim (λ h. or-left (fresh true ids x) h ∙ sym (l .above x (ltb-true largest x h))) (λ h. rw h (t .tells x)) (either (ltb largest x)) }
 
-pub new-nothing : (largest : ℕ) → Tells (newAfter largest []) []
-new-nothing largest = tells-new largest [] (tells-nothing []) (largest-nothing largest)
-
 -- Numbers that rise: every number from a bound on is new.
 pub below-nothing : (bound : ℕ) → Below bound []
 unfolding fresh member

@@ -32,4 +32,4 @@ use Rattle.isolation.specs.Samples.{AllHold, samples}
 pub samples-hold : AllHold samples
 unfolding leads childEdge OnCycle cyclesFrom cycleFaults operationOf readingAt operandsAt shiftedAt bodyAt exprAt fieldAt same keywordAt countAt knownType typeAt addressSize knownFlags flagsAt readable knownAttention attentionAt member fresh startAt rootAt rootsAt fileAt levels chipdata regs node root some position at gathered entriesOf registerEntries registerNamed nodeEntriesOf nodeEntries nodeNamed registerPosition nodePosition valueWithin bitsWithin captureAt ruleAt childAt instanceHeadAt nodeInstanceAt nodeTotal nodeHeadAt nodeAt nodesAt andThen making require requiring rowAt unless fits hasRule hasRegister hasRegisterThat registerFaults hasNode captureFaults namedFaults ruleFaults childFaults instanceFaults rootFaults referenceFaults namedBy registerTotal registerInstanceAt registerHeadAt registerAt registersAt b1 selfChild capturing gather judged verdict checkOf check any count silent nothingBelow linked reachedFrom listable listed below kept listedOf reachedCount reachedIn reached onCycle firstOf ruleFor rootFor childFor ruleUnread ruleActive entryActive childPosition entryChild chipGraph entryUnread reachedUnread listOutcome allRead fromRoot isolateIn isolate readingsFit hasValue wordFor unreadFaults recordSize recordOf recordBytes listing linkRecord recordsOf lent twoNodes bigEndian bytesOf bitOf wordOf notBits andBits orBits leftBits rightBits present field
 samples-hold =
-    ((refl, refl), ((refl, refl), ((refl, refl), ((refl, refl), ((refl, refl), ((refl, refl), ((refl, refl), ((refl, refl), (refl, (refl, (refl, (refl, (refl, (refl, (refl, (refl, (refl, tt)))))))))))))))))
+    ((refl, refl), ((refl, refl), ((refl, refl), ((refl, refl), ((refl, refl), ((refl, refl), ((refl, refl), ((refl, refl), (refl, ((refl, refl), ((refl, refl), ((refl, refl), ((refl, refl), ((refl, refl), ((refl, refl), ((refl, refl), ((refl, refl), tt)))))))))))))))))

@@ -3,19 +3,19 @@ use Prim.Native.Nat.{ℕ}
 use mathlib.Core.List.{List, [], _∷_, _++_}
 use mathlib.Core.Path.{_≡_}
 use lib.ListN.{take, drop}
-use Rattle.limits.specs.Limits.{libraryLimits}
+use Rattle.limits.specs.Limits.{libraryLimits, programLimits}
 use Rattle.format.specs.Samples.{b1}
 use Rattle.format.specs.Samples as files
 use Rattle.isolation.specs.Outcome.{Outcome, doneOutcome, refusedOutcome, isolate}
 
--- A row: a sample of a file or an expression alone; or a file, a type, words, read bytes and a list, with the whole answer.
+-- A row: a sample of a file or an expression alone; or a file, a type, words, read bytes and a list, with the whole answer, by the library's limits and by the program's.
 pub data Row : Type 0 where
   checking : files.Row → Row
   isolating : List ℕ → ℕ → List ℕ → List ℕ → List ℕ → Outcome → Row
 
 abbrev pub Holds : Row → Type 0
 Holds (checking r) = files.Holds r
-Holds (isolating file attention words read list o) = isolate libraryLimits file attention words read list ≡ o
+Holds (isolating file attention words read list o) = (isolate libraryLimits file attention words read list ≡ o) × (isolate programLimits file attention words read list ≡ o)
 
 abbrev pub AllHold : List Row → Type 0
 AllHold [] = Unit {0}

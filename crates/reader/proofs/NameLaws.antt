@@ -1,8 +1,8 @@
 -- The faults that the tables show are those of the file.
 use Prim.Native.Nat.{ℕ, _≤_, _<_}
 use mathlib.Core.Bool.{true}
-use mathlib.Core.List.{List, [], _∷_, _++_, map}
-use mathlib.Core.Path.{_≡_, refl, sym, _∙_, ap, subst}
+use mathlib.Core.List.{List, map}
+use mathlib.Core.Path.{_≡_, sym, _∙_, ap, subst}
 use native.Mathlib.Omega.{arith}
 use lib.ListN.{length, length-map}
 use Rattle.limits.proofs.LimitsLaws.{registers-within, nodes-within}
@@ -12,7 +12,7 @@ use Rattle.numbers.specs.BigEndian.{Bytes}
 use Rattle.format.specs.FileLayout.{rootsAt, fileAt}
 use Rattle.format.specs.Lookup.{gathered, registerEntries, NodeEntry, nodeEntries}
 use Rattle.format.specs.Parsed.{Parsed, done, refused}
-use Rattle.format.specs.References.{Fault, instanceFaults, rootFaults, referenceFaults}
+use Rattle.format.specs.References.{instanceFaults, rootFaults, referenceFaults}
 use Rattle.format.specs.Rules.{Every}
 use Rattle.format.specs.Tree.{Root, Chip}
 use Rattle.format.proofs.FileAccepted.{file-out}
@@ -61,10 +61,6 @@ entries-again limits s {c} e =
 pub children-of : (c : Chip) (nodes table : List ℕ) → nodes ≡ nodeKeys c → {t : List ℕ} → t ≡ written table 0 (gathered (λ e. childRow nodes (e .instance)) (nodeEntries c))
     → t ≡ written table 0 (gathered (λ e. childRow (nodeKeys c) (e .instance)) (nodeEntries c))
 children-of c nodes table e {t} d = subst (λ n. t ≡ written table 0 (gathered (λ e. childRow n (e .instance)) (nodeEntries c))) e d
-
-pub empty-left : (xs ys : List Fault) → xs ++ ys ≡ [] → xs ≡ []
-empty-left [] ys e = refl
-empty-left (x ∷ xs) ys e = let z : _≡_ {A = ℕ} 0 1 = cc in absurd (omega arith)
 
 module _ (limits : Limits) (s : List ℕ) (bytes : Bytes s) (keys kinds nodes wanted places : List ℕ) (c : Chip) (end : ℕ) (file : fileAt limits s true 0 ≡ done c end)
     (tables : TablesOf c keys kinds nodes wanted places) where

@@ -9,11 +9,6 @@ use Rattle.numbers.specs.Bits.{bitOf}
 use Rattle.format.specs.Fields.{readable}
 use Rattle.tables.specs.Kinds.{kindOf, wantedKind, readableKind}
 
--- The type is half of the kind.
-pub kind-type : (t f n : ℕ) → f < 256 → n ≡ kindOf t f → n / 2 ≡ t
-unfolding kindOf
-kind-type t f n h e = omega arith
-
 -- A register's kind is a readable one exactly when the register is readable.
 pub kind-readable : (t f : ℕ) → readableKind (kindOf t f) ≡ readable f
 unfolding kindOf readableKind readable bitOf

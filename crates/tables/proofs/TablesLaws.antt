@@ -4,9 +4,8 @@ use mathlib.Core.List.{List, [], _∷_, _++_}
 use mathlib.Core.Path.{_≡_, refl, ap, _∙_}
 use native.Mathlib.Omega.{arith}
 use lib.Dec.{eqb}
-use native.Mathlib.Numerals.{add-one}
-use lib.ListN.{length, take, drop, getD, set, length-set, drop-of-length-le}
-use lib.Seq.{drop-cons, take-append-seam}
+use lib.ListN.{length, take, drop, getD, set, length-set}
+use lib.Seq.{take-append-seam}
 use borrow.Author.Tests.{eq-eqb, ne-eqb}
 use Rattle.format.specs.Lookup.{position}
 use Rattle.tables.specs.Tables.{written}
@@ -62,13 +61,3 @@ written-front (y ∷ t) (x ∷ xs) h = written-behind x t 0 xs ∙ ap (λ u. x �
 
 pub written-take : (t xs : List ℕ) (n : ℕ) → n ≡ length xs → length xs ≤ length t → take n (written t 0 xs) ≡ xs
 written-take t xs n e h = rw (e, written-front t xs h) (take-append-seam xs (drop (length xs) t))
-
--- Copying, number after number.
-
-pub copied-next : (xs t : List ℕ) (i : ℕ) {u : List ℕ} → i < length xs → u ≡ set t i (getD xs i 0) → written u (i + 1) (drop (i + 1) xs) ≡ written t i (drop i xs)
-unfolding written
-copied-next xs t i h e = rw (e, drop-cons xs i 0 h, add-one)
-
-pub copied-end : (xs t : List ℕ) (i : ℕ) → length xs ≤ i → written t i (drop i xs) ≡ t
-unfolding written
-copied-end xs t i h = rw (drop-of-length-le xs h)

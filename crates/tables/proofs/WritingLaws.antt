@@ -3,7 +3,7 @@ use Prim.Native.Nat.{ℕ, suc, _+_, _≤_, _<_}
 use mathlib.Core.List.{List, [], _∷_, map}
 use mathlib.Core.Path.{_≡_, refl, sym, _∙_, ap, subst}
 use native.Mathlib.Omega.{arith}
-use lib.ListN.{length, drop, getD, set}
+use lib.ListN.{length, drop, getD}
 use lib.Seq.{set-out}
 use Rattle.format.specs.Lookup.{gathered}
 use Rattle.format.specs.Rules.{Every}
@@ -48,8 +48,3 @@ module _ {A : Type 0} (P : A → Type 0) (value : A → ℕ) (values : List ℕ)
         let r = f .rest es a e in
         let d = column-none value values i (r .0) h (r .2) in
         ap (λ z. written t k (gathered row z)) (sym d) ∙ r .3
-
--- One number for each element.
-pub one-written : (t : List ℕ) (k : ℕ) {u : List ℕ} {x y : ℕ} → u ≡ set t k x → x ≡ y → (u ≡ written t k (y ∷ [])) × (k + 1 ≡ k + length (y ∷ []))
-unfolding written
-one-written t k e h = (e ∙ rw h, refl)

@@ -6,7 +6,7 @@ use super::damage::{any_field, damaged_file};
 use super::draft::{long_file, valid_file, Field, FieldKind, FieldMap, Shape};
 use super::random::Random;
 use super::silent::silence_children;
-use super::{readings, room, Case};
+use super::{case_on, readings, room, Case};
 use crate::checker::Accepted;
 use crate::isolation::{isolate, RECORD_BYTES};
 use crate::large;
@@ -457,18 +457,7 @@ pub fn too_large_case(random: &mut Random) -> Case {
             aimed_file(random, number, &behind)
         }
     };
-    let (words, read) = readings(random, instances);
-    let mut case = Case {
-        attention_type: super::attention_type(random, &with_root),
-        file,
-        words,
-        read,
-        room: room(random),
-    };
-    if random.one_in(4) {
-        silence_children(random, &mut case);
-    }
-    case
+    case_on(random, file, instances, &with_root, 4)
 }
 
 /// A file that is longer than the station takes, with instances that are not too

@@ -11,8 +11,7 @@ use super::damage::damaged_file;
 use super::draft::{file_with, split, Field, FieldKind, FieldMap, Node, Register, Shape};
 use super::places::{Crowd, Places, CLASSES};
 use super::random::Random;
-use super::silent::silence_children;
-use super::{attention_type, readings, room, Case};
+use super::{case_on, Case};
 use crate::layout::{Limits, READABLE, WRITABLE};
 
 /// Registers or nodes.
@@ -297,18 +296,7 @@ pub fn case_of(random: &mut Random, map: &FieldMap) -> Case {
         }
         _ => file = damaged_file(random, map),
     }
-    let (words, read) = readings(random, instances);
-    let mut case = Case {
-        attention_type: attention_type(random, &with_root),
-        file,
-        words,
-        read,
-        room: room(random),
-    };
-    if random.one_in(4) {
-        silence_children(random, &mut case);
-    }
-    case
+    case_on(random, file, instances, &with_root, 4)
 }
 
 /// Gives a register or a node the ID of one before it.
