@@ -6,10 +6,6 @@ use native.Mathlib.Omega.{arith}
 use borrow.Author.Tests.{le-leb}
 use lib.Dec.{leb}
 use lib.ListN.{length, getD}
-use lib.Seq.{drop-cons}
-use Rattle.numbers.specs.BigEndian.{bigEndian}
-use Rattle.numbers.specs.Field.{field}
-use Rattle.numbers.proofs.FieldLaws.{field-byte}
 use Rattle.format.specs.Parsed.{Parsed, done, andThen, require, requiring, rowAt}
 use Rattle.format.proofs.ParsedLaws.{then-in, making-in}
 use Rattle.format.specs.Fields.{fieldAt}
@@ -17,7 +13,7 @@ use Rattle.format.specs.ExpressionLayout.{operationOf, exprAt}
 use Rattle.fields.specs.declared.NextRead
 use Rattle.fields.specs.declared.NextRead.{NextRead}
 use Rattle.fields.specs.Views.{forget}
-use Rattle.fields.proofs.FieldLaws.{field-there}
+use Rattle.fields.proofs.FieldLaws.{field-there, byte-field, field-three}
 use Rattle.expressions.specs.declared.Head.{Head}
 use Rattle.expressions.specs.Heads.{arityOf, readingHeadAt, operandCountAt, shiftAt, operationHeadAt, headAt}
 use Rattle.expressions.specs.Names.{ownNames}
@@ -25,24 +21,17 @@ use Rattle.expressions.specs.Openings.{readingOf, Opening}
 use Rattle.expressions.proofs.HeadLaws.{open-level, open-row, down-more}
 
 module _ (s : List ℕ) where
-  byte-there : (at : ℕ) → at < length s → fieldAt s at 1 ≡ done (getD s at 0) (at + 1)
-  byte-there at h = let k : at + 1 ≤ length s = omega arith in rw (← field-byte s at h) (field-there s at 1 k)
-
-  field-three : (at : ℕ) → at + 3 ≤ length s → field s at 3 ≡ getD s at 0 * 0x10000 + getD s (suc at) 0 * 0x100 + getD s (suc (suc at)) 0
-  unfolding field bigEndian
-  field-three at h = rw (drop-cons s at 0 (omega arith), drop-cons s (suc at) 0 (omega arith), drop-cons s (suc (suc at)) 0 (omega arith)) (omega arith)
-
   three-there : (at : ℕ) → at + 1 + 3 ≤ length s
       → fieldAt s (at + 1) 3 ≡ done (getD s (at + 1) 0 * 0x10000 + getD s (at + 2) 0 * 0x100 + getD s (at + 3) 0) (at + 1 + 3)
   three-there at h =
       let i : at + 2 ≡ suc (at + 1) = omega arith in
       let j : at + 3 ≡ suc (suc (at + 1)) = omega arith in
-      rw (i, j, ← field-three (at + 1) h) (field-there s (at + 1) 3 h)
+      rw (i, j, ← field-three s (at + 1) h) (field-there s (at + 1) 3 h)
 
   -- A byte that has to be at least so much, and is.
   enough : (at k : ℕ) → at < length s → k ≤ getD s at 0 → requiring (leb k) 9 at (fieldAt s at 1) ≡ done (getD s at 0) (at + 1)
   unfolding requiring andThen require
-  enough at k h g = rw (byte-there at h, le-leb k (getD s at 0) g)
+  enough at k h g = rw (byte-field s at h, le-leb k (getD s at 0) g)
 
 module _ (s : List ℕ) (l at : ℕ) (z : l ≡ 0 → ⊥) (h : at < length s) where
   -- What follows the type byte.
@@ -52,7 +41,7 @@ module _ (s : List ℕ) (l at : ℕ) (z : l ≡ 0 → ⊥) (h : at < length s) w
     where
       go : (j : ℕ) → (j ≡ 0 → ⊥) → headAt s j at ≡ operationHeadAt s at (at + 1) (operationOf b)
       go zero k = absurd (k refl)
-      go (suc j) k = rw (byte-there s at h, e)
+      go (suc j) k = rw (byte-field s at h, e)
 
   pub opening-reading : getD s at 0 ≡ 1 → 5 ≤ length s - at → Opening s l at 0x500
   unfolding operationOf operationHeadAt readingHeadAt
@@ -63,7 +52,7 @@ module _ (s : List ℕ) (l at : ℕ) (z : l ≡ 0 → ⊥) (h : at < length s) w
       let w : at + 1 + 3 ≡ at + 4 = omega arith in
       record {
         head = readingOf s at;
-        read = typed e ∙ then-in _ _ (three-there s at i) (making-in _ _ {b = readingOf s at} (byte-there s (at + 1 + 3) j) (rw w)) ∙ ap (done (readingOf s at)) g;
+        read = typed e ∙ then-in _ _ (three-there s at i) (making-in _ _ {b = readingOf s at} (byte-field s (at + 1 + 3) j) (rw w)) ∙ ap (done (readingOf s at)) g;
         operands = refl;
         within = omega arith;
         named = λ _. refl;

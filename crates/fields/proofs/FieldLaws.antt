@@ -1,9 +1,10 @@
 -- From a byte, a number and a keyword to what the layout calls a field.
-use Prim.Native.Nat.{ℕ, suc, _+_, _-_, _%_, _≤_, _<_}
+use Prim.Native.Nat.{ℕ, suc, _+_, _*_, _-_, _%_, _≤_, _<_}
 use mathlib.Core.Path.{_≡_, refl, sym, _∙_, ap}
 use mathlib.Core.Bool.{Bool, true, false, _&&_}
 use mathlib.Core.List.{List, [], _∷_}
 use native.Mathlib.Nat.{add-sub-cancel-left}
+use native.Mathlib.Omega.{arith}
 use borrow.Author.Tests.{eq-eqb, ne-eqb, le-leb, lt-leb, leb-true}
 use lib.ListN.{length, take, drop, getD, drop-of-length-le}
 use lib.Dec.{eqb}
@@ -13,9 +14,10 @@ use Rattle.numbers.specs.declared.NumberRead
 use Rattle.numbers.specs.declared.NumberRead.{NumberRead}
 use Rattle.numbers.specs.declared.ByteRead
 use Rattle.numbers.specs.declared.ByteRead.{ByteRead}
+use Rattle.numbers.specs.BigEndian.{bigEndian}
 use Rattle.numbers.specs.Field.{present, field, readWith, notWhole, numberValues, byteValues, numberAt}
 use Rattle.numbers.proofs.Bools.{or-right, and-both}
-use Rattle.numbers.proofs.FieldLaws.{present-yes, present-no, read-means, cut-means}
+use Rattle.numbers.proofs.FieldLaws.{field-byte, field-two, present-yes, present-no, read-means, cut-means}
 use Rattle.format.specs.Parsed.{done, refused, require}
 use Rattle.format.proofs.ParsedLaws.{require-out}
 use Rattle.format.specs.Fields.{fieldAt, same, keywordAt, knownType, knownFlags, knownAttention}
@@ -139,3 +141,14 @@ field-size s at n {x} {m} e =
     let r = require-out _ _ _ _ e in
     let i : at + n ≡ m = let z = r .1 in cc in
     (i, leb-true _ _ (r .0))
+
+-- A field of one byte, of two, and of three.
+pub byte-field : (s : List ℕ) (at : ℕ) → at < length s → fieldAt s at 1 ≡ done (getD s at 0) (at + 1)
+byte-field s at h = let k : at + 1 ≤ length s = omega arith in rw (← field-byte s at h) (field-there s at 1 k)
+
+pub two-field : (s : List ℕ) (at : ℕ) → at + 2 ≤ length s → fieldAt s at 2 ≡ done (getD s at 0 * 256 + getD s (at + 1) 0) (at + 2)
+two-field s at h = let i : at + 1 ≡ suc at = omega arith in rw (i, ← field-two s at h) (field-there s at 2 h)
+
+pub field-three : (s : List ℕ) (at : ℕ) → at + 3 ≤ length s → field s at 3 ≡ getD s at 0 * 0x10000 + getD s (suc at) 0 * 0x100 + getD s (suc (suc at)) 0
+unfolding field bigEndian
+field-three s at h = rw (drop-cons s at 0 (omega arith), drop-cons s (suc at) 0 (omega arith), drop-cons s (suc (suc at)) 0 (omega arith)) (omega arith)

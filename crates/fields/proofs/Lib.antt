@@ -4,3 +4,4 @@ pub mod Steps
 pub mod FieldLaws
 pub mod SeenLaws
 pub mod RowLaws
+pub mod ReadingLaws

@@ -9,4 +9,3 @@ pub mod SizeLaws
 pub mod PartsLaws
 pub mod RowsLaws
 pub mod RisingLaws
-pub mod NodeLaws

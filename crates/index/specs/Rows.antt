@@ -1,5 +1,5 @@
 -- The tables of a file: three columns, with a row for each register instance or node instance in file order.
-use Prim.Native.Nat.{ℕ, suc, _+_, _≤_}
+use Prim.Native.Nat.{ℕ, suc, _+_, _*_, _≤_}
 use mathlib.Core.Bool.{true}
 use mathlib.Core.List.{List, [], _∷_}
 use mathlib.Core.Path.{_≡_}
@@ -8,9 +8,8 @@ use Rattle.limits.specs.Limits.{libraryLimits}
 use Rattle.format.specs.Lookup.{RegisterEntry, NodeEntry}
 use Rattle.format.specs.RegisterLayout.{RegisterHead}
 use Rattle.format.specs.NodeLayout.{nodeInstanceAt}
-use Rattle.format.specs.Fields.{typeAt, countAt}
-use Rattle.format.specs.Parsed.{Parsed, done, andThen, making, rowAt}
-use Rattle.format.specs.Tree.{Node}
+use Rattle.format.specs.Parsed.{done}
+use Rattle.format.specs.Tree.{Child, NodeInstance}
 use Rattle.tables.specs.Kinds.{kindOf, wantedKind}
 use Rattle.tables.specs.Tables.{keyOf}
 use Rattle.index.specs.declared.Head as declared
@@ -63,12 +62,6 @@ headOf h next = record { id = h .id; kind = h .type; count = h .count; next = ne
 abbrev pub instanceOf : ℕ → ℕ → ℕ → Instance
 instanceOf n p next = record { number = n; place = p; next = next }
 
--- The rest of a node, after its ID. A file may have `limit` node instances, and `total` stand in the nodes before.
-unfoldable pub nodeAfter : ℕ → List ℕ → ℕ → ℕ → ℕ → Parsed Node
-nodeAfter limit s total i at =
-    andThen (typeAt s at) λ t a. andThen (countAt s a 1) λ n b.
-    making (λ is. record { id = i; type = t; instances = is }) (rowAt (nodeInstanceAt limit s true total) n [] b)
-
 -- A node instance is read again at its place, by itself: no limit is near.
 pub record ReadAgain (s : List ℕ) (e : NodeEntry) : Type 0 where
   pub next : ℕ
@@ -80,3 +73,15 @@ entryPlace e = e .instance .place
 
 abbrev pub entryWanted : NodeEntry → ℕ
 entryWanted e = wantedKind (e .type)
+
+-- The place of the first of some children; 0 where there is none.
+unfoldable pub firstPlace : List Child → ℕ
+firstPlace [] = 0
+firstPlace (k ∷ ks) = k .place
+
+-- What is kept of the children of a node instance: the place of the first, and how many there are.
+unfoldable pub childrenOf : NodeInstance → ℕ
+childrenOf i = firstPlace (i .children) * 256 + length (i .children)
+
+abbrev pub entryChildren : NodeEntry → ℕ
+entryChildren e = childrenOf (e .instance)

@@ -1,4 +1,4 @@
-// Of a file whose layout was read: a table with a row for each node instance, in file order; and where the address of a register instance stands.
+// The nodes section, with a table that has a row for each node instance, in file order; and of a file whose layout was read, where the address of a register instance stands.
 ghost use mathlib.Core.Path.{_≡_};
 ghost use Rattle.index.specs.Rows.{Rows, putRow};
 

@@ -1,21 +1,15 @@
-// The nodes section, with a row for each node instance.
+// The nodes section, with a row for each node instance, or its refusal.
 use crate::put_row;
 use fields::ByteRead;
 use fields::CountRead;
 use fields::ElementRead;
 use fields::NextRead;
 use fields::NumberRead;
-use fields::RisingCount;
-use fields::RisingElement;
-use fields::RisingId;
 use fields::SectionRead;
-use fields::byte_count_at;
 use fields::keyword_at;
 use fields::number_count_at;
 use fields::seen::enter_ids;
 use fields::seen::larger;
-use fields::seen::rising_id_at;
-use fields::type_at;
 use limits::LimitSet;
 use limits::node_instances;
 use nodes::NodeHeadRead;
@@ -34,11 +28,10 @@ ghost use Rattle.format.specs.NodeLayout.{nodeInstanceAt, nodeTotal, nodeAt, no
 ghost use Rattle.format.specs.Parsed.{done, making, rowAt};
 ghost use Rattle.format.specs.Tree.{NodeInstance, Node};
 ghost use Rattle.tables.specs.Indexed.{Indexed};
-ghost use Rattle.fields.specs.Rising.{ElementTold, CountTold, ElementUnless, CountUnless};
-ghost use Rattle.fields.specs.Seen.{newAfter, Tells, Below};
+ghost use Rattle.fields.specs.Seen.{newAfter, Tells};
 ghost use Rattle.fields.specs.Views.{nextParsed, elementParsed, countParsed, sectionParsed, forget};
 ghost use Rattle.nodes.specs.Nodes.{nodeId, nodeElement, nodeSection};
-ghost use Rattle.index.specs.Rows.{Rows, filled, nodeRow, rowOf, nodeAfter};
+ghost use Rattle.index.specs.Rows.{Rows, filled, nodeRow, rowOf};
 
 // The instances of a node, with their rows; `total` instances stand before them in the file, which may have `limit`. It reads each once.
 fn instances_at(
@@ -136,144 +129,9 @@ fn node_at(
     }
 }
 
-// The rest of a node, after its ID, with the rows of its instances; `total` instances stand before it in the file.
-fn node_after(
-    s: &[u8],
-    at: usize,
-    id: u64,
-    total: usize,
-    limit: usize,
-    keys: &mut [u64],
-    kinds: &mut [u64],
-    places: &mut [u64],
-) -> ElementRead
-    ensures { λ r. ⌜ elementParsed r ≡ making nodeElement (nodeAfter limit (now (s .entry)) total id at) ⌝ }
-    ensures { λ r. ⌜ ((n : Node) (m : ℕ)
-        → nodeAfter limit (now (s .entry)) total id at ≡ done n m
-        → _≡_ {A = Rows}
-        (record { keys = now (keys .exit); kinds = now (kinds .exit); places = now (places .exit) })
-        (filled (record { keys = now (keys .entry); kinds = now (kinds .entry); places = now (places .entry) }) total (map nodeRow (nodeEntriesOf n)))) ⌝ }
-{
-    let t = type_at(s, at);
-    match t {
-        ByteRead::Byte(kind, a) => {
-            let n = byte_count_at(s, a);
-            match n {
-                ByteRead::Byte(count, b) => {
-                    let code = kind as u64 * 2 + 1;
-                    let rest = instances_at(
-                        s,
-                        b,
-                        id,
-                        code,
-                        count,
-                        total,
-                        limit,
-                        keys,
-                        kinds,
-                        places,
-                    );
-                    match rest {
-                        NextRead::Next(end) => ElementRead::Element(id, count, end),
-                        NextRead::Refused(r) => ElementRead::Refused(r),
-                    }
-                }
-                ByteRead::Refused(r) => ElementRead::Refused(r),
-            }
-        }
-        ByteRead::Refused(r) => ElementRead::Refused(r),
-    }
-}
-
-// A node, with the rows of its instances, where the IDs before it are all below `bound`, and its own is not.
-fn rising_node_at(
-    s: &[u8],
-    at: usize,
-    bound: u64,
-    total: usize,
-    limit: usize,
-    keys: &mut [u64],
-    kinds: &mut [u64],
-    places: &mut [u64],
-) -> RisingElement
-    ensures { λ r. ⌜ ((before : List Node)
-        → Below bound (map nodeId before)
-        → total ≡ nodeTotal before
-        → ElementTold bound r (making nodeElement (nodeAt limit (now (s .entry)) true before at))) ⌝ }
-    ensures { λ r. ⌜ ((before : List Node)
-        → Below bound (map nodeId before)
-        → total ≡ nodeTotal before
-        → ElementUnless r
-        ((n : Node) (m : ℕ)
-        → nodeAt limit (now (s .entry)) true before at ≡ done n m
-        → _≡_ {A = Rows}
-        (record { keys = now (keys .exit); kinds = now (kinds .exit); places = now (places .exit) })
-        (filled (record { keys = now (keys .entry); kinds = now (kinds .entry); places = now (places .entry) }) total (map nodeRow (nodeEntriesOf n))))
-        (_≡_ {A = Rows}
-        (record { keys = now (keys .exit); kinds = now (kinds .exit); places = now (places .exit) })
-        (record { keys = now (keys .entry); kinds = now (kinds .entry); places = now (places .entry) }))) ⌝ }
-{
-    let i = rising_id_at(s, at, Width::Two, bound);
-    match i {
-        RisingId::Id(id, a) => {
-            let e = node_after(s, a, id, total, limit, keys, kinds, places);
-            match e {
-                ElementRead::Element(_, count, next) => RisingElement::Element(id, count, next),
-                ElementRead::Refused(r) => RisingElement::Refused(r),
-            }
-        }
-        RisingId::Refused(r) => RisingElement::Refused(r),
-        RisingId::Falls => RisingElement::Falls,
-    }
-}
-
-// So many nodes while their IDs rise, with the rows of their instances: how many instances they have. It reads each node once, and keeps no ID but the last.
-fn rising_rows_at(
-    s: &[u8],
-    at: usize,
-    n: u64,
-    limit: usize,
-    keys: &mut [u64],
-    kinds: &mut [u64],
-    places: &mut [u64],
-) -> RisingCount
-    ensures { λ r. ⌜ CountTold r (making nodeTotal (rowAt (nodeAt limit (now (s .entry)) true) n [] at)) ⌝ }
-    ensures { λ r. ⌜ ((ns : List Node) (m : ℕ)
-        → rowAt (nodeAt limit (now (s .entry)) true) n [] at ≡ done ns m
-        → CountUnless r
-        (_≡_ {A = Rows}
-        (record { keys = now (keys .exit); kinds = now (kinds .exit); places = now (places .exit) })
-        (filled (record { keys = now (keys .entry); kinds = now (kinds .entry); places = now (places .entry) }) 0 (map nodeRow (gathered nodeEntriesOf ns))))
-        (filled (record { keys = now (keys .exit); kinds = now (kinds .exit); places = now (places .exit) }) 0 (map nodeRow (gathered nodeEntriesOf ns))
-        ≡ filled (record { keys = now (keys .entry); kinds = now (kinds .entry); places = now (places .entry) }) 0 (map nodeRow (gathered nodeEntriesOf ns)))) ⌝ }
-{
-    let mut bound = 0;
-    let mut total = 0;
-    let mut left = n;
-    let mut place = at;
-    while 0 < left {
-        let e = rising_node_at(s, place, bound, total, limit, keys, kinds, places);
-        match e {
-            RisingElement::Element(id, count, next) => {
-                bound = id + 1;
-                total += count as usize;
-                place = next;
-            }
-            RisingElement::Refused(r) => {
-                return RisingCount::Read(CountRead::Refused(r));
-            }
-            RisingElement::Falls => {
-                return RisingCount::Falls;
-            }
-        }
-        left -= 1;
-    }
-    RisingCount::Read(CountRead::Count(total, place))
-}
-
 // So many nodes with IDs in any order, with the rows of their instances: how many instances they have. It reads each node once, and enters the IDs in an index once one is not above `largest`,
 // which is 0 before the first.
-fn indexed_rows_at(
+fn rows_at(
     s: &[u8],
     at: usize,
     n: u64,
@@ -328,31 +186,6 @@ fn indexed_rows_at(
         left -= 1;
     }
     CountRead::Count(total, place)
-}
-
-// So many nodes, with the rows of their instances: how many instances they have. Where an ID falls it begins again with a list of them.
-fn rows_at(
-    s: &[u8],
-    at: usize,
-    n: u64,
-    limit: usize,
-    keys: &mut [u64],
-    kinds: &mut [u64],
-    places: &mut [u64],
-) -> CountRead
-    requires { ⌜ limit ≤ libraryLimits .nodeInstances ⌝ }
-    ensures { λ r. ⌜ countParsed r ≡ making nodeTotal (rowAt (nodeAt limit (now (s .entry)) true) n [] at) ⌝ }
-    ensures { λ r. ⌜ ((ns : List Node) (m : ℕ)
-        → rowAt (nodeAt limit (now (s .entry)) true) n [] at ≡ done ns m
-        → _≡_ {A = Rows}
-        (record { keys = now (keys .exit); kinds = now (kinds .exit); places = now (places .exit) })
-        (filled (record { keys = now (keys .entry); kinds = now (kinds .entry); places = now (places .entry) }) 0 (map nodeRow (gathered nodeEntriesOf ns)))) ⌝ }
-{
-    let r = rising_rows_at(s, at, n, limit, keys, kinds, places);
-    match r {
-        RisingCount::Read(c) => c,
-        RisingCount::Falls => indexed_rows_at(s, at, n, limit, keys, kinds, places),
-    }
 }
 
 // The nodes section of a file that may have `limit` node instances, with the rows of all node instances from the front of the tables on.

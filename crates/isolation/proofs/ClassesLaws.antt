@@ -126,14 +126,14 @@ module _ (of : LimitSet) (t : Lengths) (file : List ℕ) (unread : ℕ) (x s : O
     unfolding roomIn
     given b e d = rw (le-leb _ _ long, e) d
 
-    pub given-answer : {l : Layout} → r ≡ LayoutRead.Done l → {keys index names places child : List ℕ} → Examined of file l keys index names places child → (wanted : ℕ) → wanted ≡ t .wanted → {o : Outcome}
-        → o ≡ cond (bothFit (l .«node_instances») wanted unread) x s → Given o
+    pub given-answer : {l : Layout} → r ≡ LayoutRead.Done l → {keys index names places child : List ℕ} → Examined of file l keys index names places child → (wanted left : ℕ) → wanted ≡ t .wanted → left ≡ unread → {o : Outcome}
+        → o ≡ cond (bothFit (l .«node_instances») wanted left) x s → Given o
     unfolding bothFit
-    given-answer {l} e y wanted same d =
+    given-answer {l} e y wanted left same kept d =
         let room = done-room of t file is e in
         let z = roomy t (l .«register_instances») (l .«node_instances») (sym room ∙ room-laid of t file (y .whole)) in
         let a : l .«node_instances» ≤ wanted = omega (arith, z .wanted) in
-        let b : l .«node_instances» ≤ unread = omega (arith, z .names, long) in
+        let b : l .«node_instances» ≤ left = omega (arith, z .names, long, kept) in
         given true room (d ∙ rw (le-leb _ _ a, le-leb _ _ b))
 
     pub given-refused : {y : Refusal} → r ≡ LayoutRead.Refused y → {list : List ℕ} → s ≡ refusedOutcome 43 0 list

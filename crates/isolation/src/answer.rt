@@ -22,7 +22,7 @@ ghost use Rattle.reader.specs.Examined.{Examined};
 ghost use Rattle.isolation.specs.Outcome.{outcomeOf, refusedOutcome, isExact, isolate};
 ghost use Rattle.isolation.specs.Ready.{Tabled, Ready, bothFit, tablesFit};
 
-// Refusals 18 and 19, or success, where the type has a root and the readings fit. A rule is evaluated as the walk takes its node instance.
+// Refusals 18 and 19, or success, where the type has a root and the readings fit. A rule is evaluated as the walk takes its node instance. Once every reading that is needed is known, `unread` takes the words of the listed bits.
 fn settle(
     file: &[u8],
     attention: u8,
@@ -65,7 +65,7 @@ fn settle(
             place: u,
         });
     }
-    let l = write_list(list, attention, nodes, &marks, active, children);
+    let l = write_list(list, attention, nodes, &marks, active, children, unread);
     match l {
         Listing::Written(records) => Isolated::Done(Isolation { records, steps }),
         Listing::NoRoom(records) => Isolated::Refused(Refusal {

@@ -64,6 +64,7 @@ fn isolate_in(
         places,
         node_index,
         child,
+        unread,
     );
     match e {
         LayoutRead::Done(l) => answer(

@@ -71,13 +71,19 @@ unfolding written
 written-sets t k [] = refl
 written-sets t k (x ∷ xs) = written-sets (set t k x) (suc k) xs
 
+-- What is put in the place of a part is written there.
+pub part-written : (t : List ℕ) (k n : ℕ) (u : List ℕ) → k + n ≤ length t → length u ≡ n → putMid k n t u ≡ written t k u
+part-written t k n u h e =
+    let z : k + length u ≡ k + n = omega arith in
+    rw (drop-drop n k t) (sym (written-sets t k u ∙ sets-eq u t k (omega arith) ∙ rw (z, append-assoc)))
+
+pub part-length : (t : List ℕ) (k n : ℕ) → k + n ≤ length t → length (midOf k n t) ≡ n
+part-length t k n h = let d : length (drop k t) ≡ length t - k = length-drop k t in length-take-le n (drop k t) (omega arith)
+
 pub cleared-part : (t : List ℕ) (k n : ℕ) {u : List ℕ} → k + n ≤ length t → u ≡ childless (length (midOf k n t)) → putMid k n t u ≡ written t k (childless n)
-cleared-part t k n h e =
-    let l : length (childless n) ≡ n = childless-length n in
-    let d : length (drop k t) ≡ length t - k = length-drop k t in
-    let m : length (midOf k n t) ≡ n = length-take-le n (drop k t) (omega arith) in
-    let z : k + length (childless n) ≡ k + n = omega arith in
-    rw (e, m, drop-drop n k t) (sym (written-sets t k (childless n) ∙ sets-eq (childless n) t k (omega arith) ∙ rw (z, append-assoc)))
+cleared-part t k n {u} h e =
+    let i : u ≡ childless n = e ∙ ap childless (part-length t k n h) in
+    part-written t k n u h (ap length i ∙ childless-length n) ∙ ap (written t k) i
 
 pub cleared-most : (t : List ℕ) (k m n : ℕ) → length t ≤ k + m → m ≤ n → written t k (childless m) ≡ written t k (childless n)
 unfolding childless

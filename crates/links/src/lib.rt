@@ -89,7 +89,7 @@ pub fn put_link(child: &mut [u16], k: usize, bit: u8, x: u16)
 }
 
 // Every place of a part of a table of children, without a child. It writes each once.
-fn fill(part: &mut [u16])
+pub fn fill(part: &mut [u16])
     ensures { λ r. ⌜ now (part .exit) ≡ childless (length (now (part .entry))) ⌝ }
 {
     let mut i = 0;

@@ -1,4 +1,5 @@
--- The laws of the listing and of writing it.
+-- The laws of the listing, of its words and of writing it.
 pub mod RowsLaws
+pub mod WordLaws
 pub mod WriteLaws
-pub mod ActiveBitsLaws
+pub mod PassLaws

@@ -79,25 +79,6 @@ kept-append p (x ∷ xs) ys = go (p x) (kept-append p xs ys)
     go false e = e
 
 module _ (g : Graph) where
-  pub bits-none : (i : ℕ) → 0 ≡ length (bitsTo g i 0)
-  unfolding bitsTo below kept
-  bits-none i = refl
-
-  pub bits-more : (i b : ℕ) → bitsTo g i (b + 1) ≡ bitsTo g i b ++ kept (listable g i) (b ∷ [])
-  unfolding bitsTo below
-  bits-more i b = rw add-one (kept-append (listable g i) (below b) (b ∷ []))
-
-  pub count-more : (i b : ℕ) {c k : ℕ} → c ≡ length (bitsTo g i b) → k ≡ length (kept (listable g i) (b ∷ [])) → c + k ≡ length (bitsTo g i (b + 1))
-  count-more i b e d = omega (arith, ap length (bits-more i b), length-append (bitsTo g i b) (kept (listable g i) (b ∷ [])))
-
-  pub bit-yes : (i b : ℕ) {t : Bool} → t ≡ listable g i b → t ≡ true → 1 ≡ length (kept (listable g i) (b ∷ []))
-  unfolding kept
-  bit-yes i b e d = rw (sym e ∙ d)
-
-  pub bit-no : (i b : ℕ) {t : Bool} → t ≡ listable g i b → t ≡ false → 0 ≡ length (kept (listable g i) (b ∷ []))
-  unfolding kept
-  bit-no i b e d = rw (sym e ∙ d)
-
   kept-few : (p : ℕ → Bool) (xs : List ℕ) → length (kept p xs) ≤ length xs
   unfolding kept
   kept-few p [] = omega arith
@@ -112,14 +93,6 @@ module _ (g : Graph) where
   bits-few i n = omega (arith, kept-few (listable g i) (below n), below-length n)
 
   module _ (marks : List ℕ) where
-    pub row-done : (i : ℕ) {t : Bool} {c : ℕ} → t ≡ isDone marks i → t ≡ true → c ≡ length (bitsTo g i 64) → c ≡ length (rowLinks g marks i)
-    unfolding rowLinks
-    row-done i e d q = rw (sym e ∙ d, length-map) q
-
-    pub row-not : (i : ℕ) {t : Bool} → t ≡ isDone marks i → t ≡ false → 0 ≡ length (rowLinks g marks i)
-    unfolding rowLinks
-    row-not i e d = rw (sym e ∙ d)
-
     pub row-few : (i : ℕ) → length (rowLinks g marks i) ≤ 64
     unfolding rowLinks
     row-few i = go (isDone marks i)

@@ -1,7 +1,7 @@
 -- The laws of writing: records one after another, and the rest of the list as it was.
 use mathlib.Core.Path.{_≡_, refl, sym, ap, _∙_}
 use mathlib.Core.Bool.{Bool, true, false, cond}
-use mathlib.Core.List.{List, [], _∷_, _++_, map, append-assoc, append-nil}
+use mathlib.Core.List.{List, [], _∷_, _++_, map, append-assoc}
 use Prim.Native.Nat.{ℕ, zero, suc, _+_, _-_, _*_, _/_, _%_, _≤_, _<_}
 use native.Mathlib.Nat.{add-zero, zero-add}
 use native.Mathlib.Numerals.{add-one}
@@ -9,16 +9,18 @@ use native.Mathlib.Omega.{arith}
 use borrow.Author.Tests.{le-leb, lt-leb}
 use lib.ListN.{length, getD, take, drop, length-map, length-append, length-take, take-append-drop}
 use lib.Seq.{take-at, drop-append-add, drop-drop}
+use Rattle.numbers.specs.Bits.{bitOf}
 use Rattle.numbers.proofs.BigEndianLaws.{length-bytes}
-use Rattle.graph.specs.Chains.{Graph, link, below, listable, kept}
+use Rattle.graph.specs.Chains.{Graph, link, below, kept}
 use Rattle.format.specs.Lookup.{gathered}
 use Rattle.walk.specs.TableGraph.{tableSize, tableGraph}
 use Rattle.listing.specs.declared.Listing
 use Rattle.listing.specs.declared.Listing.{Listing}
 use Rattle.listing.specs.Records.{recordOf, recordSize}
-use Rattle.listing.specs.Rows.{bitsTo, isDone, rowLinks, rowsTo, bitRecords, keyId, keyNumber, rowRecords, rowsRecords, Wrote, listingValues, hasRoom, listingFor, tableLinks, tableRecords, listAfter}
+use Rattle.listing.specs.Rows.{bitsTo, isDone, rowLinks, rowsTo, rowWord, setTo, bitRecords, keyId, keyNumber, wordRecords, rowRecords, rowsRecords, Wrote, listingValues, hasRoom, listingFor, tableLinks, tableRecords, listAfter}
 use Rattle.format.proofs.GatheredLaws.{gathered-append, gathered-one}
-use Rattle.listing.proofs.RowsLaws.{bits-more, row-done, rows-none, rows-more}
+use Rattle.listing.proofs.RowsLaws.{rows-none, rows-more}
+use Rattle.listing.proofs.WordLaws.{set-more, set-mono, row-records}
 
 pub record-length : (attention bit id number : ℕ) → length (recordOf attention bit id number) ≡ 8
 unfolding recordOf
@@ -52,71 +54,49 @@ wrote-more {old} {mid} {new} {at} {k} {next} {xs} {ys} a b h =
       same = b .same ∙ a .same;
     }
 
-module _ (g : Graph) (attention id number i : ℕ) where
-  -- One bit.
-  pub bit-wrote : (b : ℕ) {t : Bool} {old new : List ℕ} {at : ℕ} → t ≡ listable g i b → t ≡ true
-      → new ≡ take at old ++ (recordOf attention b id number ++ drop (at + 8) old) → length new ≡ length old
-      → Wrote old new at (at + 8) (bitRecords attention id number (kept (listable g i) (b ∷ [])))
-  unfolding kept bitRecords gathered
-  bit-wrote b e d c s =
-      rw (sym e ∙ d, append-nil)
-      (record { content = c; ends = omega (arith, record-length attention b id number); same = s })
-
-  pub bit-kept : (b : ℕ) {t : Bool} {old : List ℕ} {at : ℕ} → t ≡ listable g i b → t ≡ false
-      → Wrote old old at at (bitRecords attention id number (kept (listable g i) (b ∷ [])))
-  unfolding kept bitRecords gathered
-  bit-kept b {old = old} {at = at} e d = rw (sym e ∙ d) (wrote-none old at)
-
-  -- Bit after bit.
-  pub bits-started : {old : List ℕ} (at : ℕ) → Wrote old old at at (bitRecords attention id number (bitsTo g i 0))
-  unfolding bitsTo kept bitRecords gathered below
+module _ (attention id number word : ℕ) where
+  -- Bit after bit of a word.
+  pub bits-started : {old : List ℕ} (at : ℕ) → Wrote old old at at (bitRecords attention id number (setTo word 0))
+  unfolding setTo kept bitRecords gathered below
   bits-started {old} at = wrote-none old at
 
-  pub bits-wrote : (b : ℕ) {old mid new : List ℕ} {at k next : ℕ} → Wrote old mid at k (bitRecords attention id number (bitsTo g i b))
-      → Wrote mid new k next (bitRecords attention id number (kept (listable g i) (b ∷ []))) → next ≤ length old
-      → Wrote old new at next (bitRecords attention id number (bitsTo g i (b + 1)))
+  pub bits-wrote : (b : ℕ) {old mid new : List ℕ} {at k : ℕ} → bitOf 64 word b ≡ true → Wrote old mid at k (bitRecords attention id number (setTo word b))
+      → new ≡ take k mid ++ (recordOf attention b id number ++ drop (k + 8) mid) → length new ≡ length mid → k + 8 ≤ length old
+      → Wrote old new at (k + 8) (bitRecords attention id number (setTo word (b + 1)))
   unfolding bitRecords
-  bits-wrote b x y h =
-      rw (bits-more g i b, gathered-append (λ c. recordOf attention c id number) (bitsTo g i b) (kept (listable g i) (b ∷ []))) (wrote-more x y h)
+  bits-wrote b on x c s h =
+      rw (set-more word b on, gathered-append (λ c. recordOf attention c id number) (setTo word b) (b ∷ []), gathered-one)
+      (wrote-more x (record { content = c; ends = omega (arith, record-length attention b id number); same = s }) h)
 
-  -- While there is room for all 64 bits, there is room for the next.
-  bits-mono : (b k : ℕ) → length (bitsTo g i b) ≤ length (bitsTo g i (b + k))
-  bits-mono b zero = rw add-zero (omega arith)
-  bits-mono b (suc k) =
-      let e : b + suc k ≡ b + k + 1 = omega arith in
-      rw e (omega (arith, bits-mono b k, ap length (bits-more g i (b + k)), length-append (bitsTo g i (b + k)) (kept (listable g i) ((b + k) ∷ []))))
-
-  pub room-next : (b : ℕ) {old mid : List ℕ} {at k : ℕ} → b < 64 → at + 8 * length (bitsTo g i 64) ≤ length old
-      → Wrote old mid at k (bitRecords attention id number (bitsTo g i b))
-      → (k + 8 * length (kept (listable g i) (b ∷ [])) ≤ length old)
-  room-next b {k = k} h r w =
+  -- While there is room for all bits of the word, there is room for the next.
+  pub room-next : (b : ℕ) {old mid : List ℕ} {at k : ℕ} → b < 64 → bitOf 64 word b ≡ true → at + 8 * length (setTo word 64) ≤ length old
+      → Wrote old mid at k (bitRecords attention id number (setTo word b))
+      → k + 8 ≤ length old
+  room-next b {k = k} h on r w =
       let e : b + 1 + (63 - b) ≡ 64 = omega arith in
-      let m : length (bitsTo g i (b + 1)) ≤ length (bitsTo g i 64) = rw e at (bits-mono (b + 1) (63 - b)) in
+      let m : length (setTo word (b + 1)) ≤ length (setTo word 64) = rw e at (set-mono word (b + 1) (63 - b)) in
       omega (
         arith,
         m,
         w .ends,
-        records-length attention id number (bitsTo g i b),
-        ap length (bits-more g i b),
-        length-append (bitsTo g i b) (kept (listable g i) (b ∷ [])),
+        records-length attention id number (setTo word b),
+        ap length (set-more word b on),
+        length-append (setTo word b) (b ∷ []),
       )
+
+-- The records of a word, by its node instance's key.
+pub word-wrote : (attention : ℕ) (keys : List ℕ) (i word : ℕ) {key : ℕ} {old new : List ℕ} {at next : ℕ} → key ≡ getD keys i 0
+    → Wrote old new at next (bitRecords attention (key / 256 % 65536) (key % 256) (setTo word 64))
+    → Wrote old new at next (wordRecords attention keys i word)
+unfolding wordRecords keyId keyNumber
+word-wrote attention keys i word k w = rw (← k) w
 
 module _ (attention : ℕ) (keys : List ℕ) (g : Graph) (marks : List ℕ) where
   -- One node instance.
-  pub row-wrote : (i : ℕ) {t : Bool} {key : ℕ} {old new : List ℕ} {at next : ℕ} → t ≡ isDone marks i → t ≡ true → key ≡ getD keys i 0
-      → Wrote old new at next (bitRecords attention (key / 256 % 65536) (key % 256) (bitsTo g i 64))
+  pub row-wrote : (i : ℕ) {word : ℕ} {old new : List ℕ} {at next : ℕ} → word ≡ rowWord g marks i
+      → Wrote old new at next (wordRecords attention keys i word)
       → Wrote old new at next (rowRecords attention keys g marks i)
-  unfolding rowRecords keyId keyNumber
-  row-wrote i e d k w = rw (sym e ∙ d, ← k) w
-
-  pub row-kept : (i : ℕ) {t : Bool} {old : List ℕ} {at : ℕ} → t ≡ isDone marks i → t ≡ false → Wrote old old at at (rowRecords attention keys g marks i)
-  unfolding rowRecords
-  row-kept i {old = old} {at = at} e d = rw (sym e ∙ d) (wrote-none old at)
-
-  -- A done node instance has as many links as bits that are listable.
-  pub row-room : (i : ℕ) (list : List ℕ) (at : ℕ) {t : Bool} → t ≡ isDone marks i → t ≡ true → at + 8 * length (rowLinks g marks i) ≤ length list
-      → at + 8 * length (bitsTo g i 64) ≤ length list
-  row-room i list at e d h = omega (arith, row-done g marks i e d refl)
+  row-wrote i e w = rw (← row-records attention keys g marks i e) w
 
   -- Node instance after node instance.
   pub rows-started : {old : List ℕ} → Wrote old old 0 0 (rowsRecords attention keys g marks 0)

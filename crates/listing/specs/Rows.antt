@@ -1,10 +1,11 @@
 -- The listing as the code goes through it: node instances from 0 up, and of each done one the bits from 0 up.
-use Prim.Native.Nat.{ℕ, _+_, _/_, _%_}
+use Prim.Native.Nat.{ℕ, _+_, _/_, _%_, _<_}
 use mathlib.Core.Bool.{Bool, cond}
 use mathlib.Core.List.{List, [], _++_, map}
 use mathlib.Core.Path.{_≡_}
 use lib.Dec.{eqb, leb}
 use lib.ListN.{length, getD, take, drop}
+use Rattle.numbers.specs.Bits.{bitOf, wordOf}
 use Rattle.graph.specs.Chains.{Graph, Link, link, listable, below, kept}
 use Rattle.format.specs.Lookup.{gathered}
 use Rattle.walk.specs.TableGraph.{tableSize, tableGraph}
@@ -28,6 +29,22 @@ rowLinks g marks i = cond (isDone marks i) (map (link i) (bitsTo g i 64)) []
 unfoldable pub rowsTo : Graph → List ℕ → ℕ → List Link
 rowsTo g marks n = gathered (rowLinks g marks) (below n)
 
+-- The word of the bits of i that are listed if i is reached: a bit is set exactly where it is one of them.
+unfoldable pub listedWord : Graph → ℕ → ℕ
+listedWord g i = wordOf 64 (listable g i)
+
+-- The same, if i is done; otherwise a word without a bit.
+unfoldable pub rowWord : Graph → List ℕ → ℕ → ℕ
+rowWord g marks i = cond (isDone marks i) (listedWord g i) 0
+
+-- A table holds these words of the first n node instances, as far as it has places for them.
+pub record RowsKept (g : Graph) (marks : List ℕ) (n : ℕ) (listed : List ℕ) : Type 0 where
+  pub word : (i : ℕ) → i < n → i < length listed → getD listed i 0 ≡ rowWord g marks i
+
+-- Those of the first n bits that a word has.
+unfoldable pub setTo : ℕ → ℕ → List ℕ
+setTo word n = kept (bitOf 64 word) (below n)
+
 -- The records of some bits of a node instance with this ID and number.
 unfoldable pub bitRecords : ℕ → ℕ → ℕ → List ℕ → List ℕ
 bitRecords attention id number bits = gathered (λ b. recordOf attention b id number) bits
@@ -38,6 +55,10 @@ keyId k = k / 256 % 65536
 
 unfoldable pub keyNumber : ℕ → ℕ
 keyNumber k = k % 256
+
+-- The records of the bits of a word as those of the node instance i, from a table of the node instances' keys.
+unfoldable pub wordRecords : ℕ → List ℕ → ℕ → ℕ → List ℕ
+wordRecords attention keys i word = bitRecords attention (keyId (getD keys i 0)) (keyNumber (getD keys i 0)) (setTo word 64)
 
 -- The records of the node instance i, if it is done, from a table of the node instances' keys.
 unfoldable pub rowRecords : ℕ → List ℕ → Graph → List ℕ → ℕ → List ℕ

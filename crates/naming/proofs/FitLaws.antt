@@ -18,7 +18,7 @@ use Rattle.fields.specs.Views.{forget}
 use Rattle.expressions.specs.declared.HeadRead
 use Rattle.expressions.specs.declared.HeadRead.{HeadRead}
 use Rattle.expressions.specs.Names.{ownNames}
-use Rattle.expressions.specs.Openings.{readingOf, Opening}
+use Rattle.expressions.specs.Openings.{idIn, readingOf, Opening}
 use Rattle.expressions.proofs.HeadLaws.{down-none}
 use Rattle.expressions.proofs.OpeningLaws.{opening-row, down-on}
 use Rattle.expressions.proofs.OperandsLaws.{Ahead}
@@ -29,9 +29,17 @@ use Rattle.naming.proofs.JudgedLaws.{register-fit, name-judged, nameles
 
 -- The four bytes of a name are what the register is kept as.
 pub key-bytes : (s : List ℕ) (at : ℕ) → ((i : ℕ) → getD s i 0 < 256)
-    → getD s (at + 1) 0 * 0x1000000 + getD s (at + 2) 0 * 0x10000 + getD s (at + 3) 0 * 0x100 + getD s (at + 4) 0 ≡ keyIn s at
+    → getD s at 0 * 0x1000000 + getD s (at + 1) 0 * 0x10000 + getD s (at + 2) 0 * 0x100 + getD s (at + 3) 0 ≡ keyIn s at
 unfolding keyOf
-key-bytes s at bytes = omega (arith, bytes (at + 1), bytes (at + 2), bytes (at + 3), bytes (at + 4))
+key-bytes s at bytes = omega (arith, bytes at, bytes (at + 1), bytes (at + 2), bytes (at + 3))
+
+-- The name that a reading has stands after its type byte.
+key-behind : (s : List ℕ) (at : ℕ) → keyIn s (at + 1) ≡ keyOf (idIn s at) (getD s (at + 4) 0)
+key-behind s at =
+    let a : at + 1 + 1 ≡ at + 2 = omega arith in
+    let b : at + 1 + 2 ≡ at + 3 = omega arith in
+    let c : at + 1 + 3 ≡ at + 4 = omega arith in
+    rw (a, b, c)
 
 -- A register that was found at position k has the kind.
 pub key-found : (keys kinds : List ℕ) (kind x : ℕ) {k t : ℕ} → k ≡ position (λ y. eqb y x) keys → k < length keys → t ≡ getD kinds k 0
@@ -43,11 +51,11 @@ pub key-missed : {A : Type 0} → false ≡ true → A
 key-missed e = let z : _≡_ {A = ℕ} 0 1 = cc in absurd (omega arith)
 
 -- The name of a reading that is there and has the kind is no fault.
-own-fits : (s keys kinds : List ℕ) (kind at next : ℕ) → KeyFits keys kinds kind (keyIn s at)
+own-fits : (s keys kinds : List ℕ) (kind at next : ℕ) → KeyFits keys kinds kind (keyOf (idIn s at) (getD s (at + 4) 0))
     → done tt next ≡ judgedAt (gathered (nameFaults keys kinds kind) (ownNames at (readingOf s at))) next
 unfolding positionIn
 own-fits s keys kinds kind at next f =
-    name-judged keys kinds _ _ at next {k = position (λ y. eqb y (keyIn s at)) keys} {t = kind} refl (sym (f .fits)) kind
+    name-judged keys kinds _ _ at next {k = position (λ y. eqb y (keyOf (idIn s at) (getD s (at + 4) 0))) keys} {t = kind} refl (sym (f .fits)) kind
     (register-fit at next (lt-ltb _ _ (f .there)) (eq-eqb kind kind refl))
 
 module _ (f : Named → List Fault) (s : List ℕ) (l at : ℕ) where
@@ -85,7 +93,7 @@ fit-more f s l at {n} {place} {next} a z b = (
 )
 
 -- A reading whose register fits.
-pub fit-reading : (s keys kinds : List ℕ) (l kind at : ℕ) {o x : ℕ} → Opening s l at o → o ≡ 0x500 → x ≡ keyIn s at → KeyFits keys kinds kind x
+pub fit-reading : (s keys kinds : List ℕ) (l kind at : ℕ) {o x : ℕ} → Opening s l at o → o ≡ 0x500 → x ≡ keyIn s (at + 1) → KeyFits keys kinds kind x
     → Fit (nameFaults keys kinds kind) s l at (at + o / 256)
 fit-reading s keys kinds l kind at {o} i e g k =
-    fit-end (nameFaults keys kinds kind) s l at (own-none _ s l at i (rw (i .named e) (own-fits s keys kinds kind at _ (rw (← g) k)))) (omega arith)
+    fit-end (nameFaults keys kinds kind) s l at (own-none _ s l at i (rw (i .named e) (own-fits s keys kinds kind at _ (rw (← key-behind s at, ← g) k)))) (omega arith)

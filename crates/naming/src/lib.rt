@@ -1,4 +1,4 @@
-// The faults of the registers that captures and rules name once the layout was read: refusals 12 and 13.
+// The registers that captures and rules name: whether all of them fit, and once the layout was read, their faults, refusals 12 and 13.
 use expressions::Head;
 use expressions::HeadRead;
 use expressions::READING;
@@ -27,7 +27,7 @@ ghost use Rattle.tables.specs.Kinds.{readableKind};
 ghost use Rattle.expressions.specs.declared.Head.{Head};
 ghost use Rattle.fields.specs.Views.{nextParsed, forget};
 ghost use Rattle.expressions.specs.Names.{ownNames};
-ghost use Rattle.naming.specs.Fits.{keyIn, KeyFits};
+ghost use Rattle.naming.specs.Fits.{keyIn, KeyFits, CapturesFit, RulesFit};
 
 // A register that is named at a place: 12 where it was not found, then 13 where it is not fit, otherwise the place after it.
 fn register_fault(found: bool, fit: bool, at: usize, next: usize) -> NextRead
@@ -107,15 +107,15 @@ fn own_fault(
     }
 }
 
-// What the register is kept as that the reading at a place names: the four bytes after its type byte, the first highest.
+// What the register is kept as whose name stands at a place: the four bytes there, the first highest.
 fn key_at(s: &[u8], at: usize) -> u64
-    requires { ⌜ at + 5 ≤ length (now s) ⌝ }
+    requires { ⌜ at + 4 ≤ length (now s) ⌝ }
     ensures { λ r. ⌜ r ≡ keyIn (now (s .entry)) at ⌝ }
 {
-    s[at + 1] as u64 * 0x1000000
-        + s[at + 2] as u64 * 0x10000
-        + s[at + 3] as u64 * 0x100
-        + s[at + 4] as u64
+    s[at] as u64 * 0x1000000
+        + s[at + 1] as u64 * 0x10000
+        + s[at + 2] as u64 * 0x100
+        + s[at + 3] as u64
 }
 
 // Whether the register that is kept as x is there and has the kind.
@@ -128,6 +128,33 @@ fn key_fits(x: u64, kind: u64, index: &[u16], keys: &[u64], kinds: &[u64]) -> bo
         return entry(kinds, k) == kind;
     }
     false
+}
+
+// Whether so many captures are there at a place, and each names a register that is there and readable. It looks each up once, up to the first that does not fit.
+pub fn captures_fit(s: &[u8], at: usize, n: u8, index: &[u16], keys: &[u64], kinds: &[u64]) -> bool
+    ensures { λ r. ⌜ (IndexOf (now (index .entry)) (now (keys .entry)) → r ≡ true
+        → CapturesFit (now (s .entry)) (now (keys .entry)) (now (kinds .entry)) n at) ⌝ }
+{
+    if s.len() < at {
+        return false;
+    }
+    if s.len() - at < n as usize * 4 {
+        return false;
+    }
+    let mut left = n;
+    let mut place = at;
+    while 0 < left {
+        let k = find(index, keys, key_at(s, place));
+        if keys.len() <= k {
+            return false;
+        }
+        if entry(kinds, k) % 2 != 1 {
+            return false;
+        }
+        place += 4;
+        left -= 1;
+    }
+    true
 }
 
 // The place after the expression at a place, where it is read with so many levels left and every register that it names is there and has the kind; otherwise 0. It reads each
@@ -152,7 +179,7 @@ fn fit_at(
     }
     let start = at + o / 256;
     if o == READING {
-        if key_fits(key_at(s, at), kind, index, keys, kinds) {
+        if key_fits(key_at(s, at + 1), kind, index, keys, kinds) {
             return start;
         }
         return 0;
@@ -165,6 +192,47 @@ fn fit_at(
             return 0;
         }
         place = next;
+        left -= 1;
+    }
+    place
+}
+
+// The place after so many rules at a place, where they are read and every register that they name is there and has the kind; otherwise 0. It reads each byte of the rules at most once.
+pub fn rules_fit(
+    s: &[u8],
+    at: usize,
+    n: u8,
+    kind: u64,
+    index: &[u16],
+    keys: &[u64],
+    kinds: &[u64],
+) -> usize
+    ensures { λ r. ⌜ (IndexOf (now (index .entry)) (now (keys .entry)) → (r ≡ 0 → ⊥)
+        → RulesFit (now (s .entry)) (now (keys .entry)) (now (kinds .entry)) kind n at r) ⌝ }
+{
+    let mut seen = [0u8; 6];
+    let mut left = n;
+    let mut place = at;
+    while 0 < left {
+        if s.len() <= place {
+            return 0;
+        }
+        let a = s[place];
+        if a < 1 {
+            return 0;
+        }
+        if 5 < a {
+            return 0;
+        }
+        if seen[a as usize] != 0 {
+            return 0;
+        }
+        let end = fit_at(s, place + 1, limits::LEVELS, kind, index, keys, kinds);
+        if end == 0 {
+            return 0;
+        }
+        seen[a as usize] = 1;
+        place = end;
         left -= 1;
     }
     place

@@ -4,8 +4,8 @@ use mathlib.Core.Path.{_≡_, refl, sym, _∙_, ap}
 use mathlib.Core.Bool.{true}
 use mathlib.Core.List.{List, [], _∷_, map}
 use native.Mathlib.Omega.{arith}
-use borrow.Author.Tests.{leb-true, ltb-true}
-use lib.ListN.{length}
+use borrow.Author.Tests.{leb-true, lt-ltb, ltb-true}
+use lib.ListN.{length, getD}
 use lib.Dec.{leb, ltb}
 use Rattle.numbers.specs.Field.{field}
 use Rattle.numbers.proofs.Bools.{and-right}
@@ -22,15 +22,16 @@ use Rattle.nodes.specs.declared.NodeHeadRead.{NodeHeadRead}
 use Rattle.nodes.specs.declared.InstanceHead as instance
 use Rattle.nodes.specs.declared.InstanceHeadRead
 use Rattle.nodes.specs.declared.InstanceHeadRead.{InstanceHeadRead}
-use Rattle.fields.specs.Seen.{unmarked, newAfter, instanceNumberAt, Tells}
-use Rattle.nodes.specs.Nodes.{childBitAt, countsAt, nodeBodyAt}
+use Rattle.fields.specs.Seen.{unmarked, newAfter, instanceNumberAt, Tells, Below}
+use Rattle.nodes.specs.Nodes.{childBitAt, countsAt, nodeBodyAt, ChildrenRead}
 use Rattle.fields.specs.Views.{Element, refusedBy, forget}
 use Rattle.nodes.specs.Nodes.{nodeHeadParsed, instanceHeadParsed, ruleAttention, childBit, nodeNumber, nodeId, nodeElement}
-use Rattle.format.proofs.ParsedLaws.{then-in, then-out, making-in, making-out, requiring-out}
-use Rattle.fields.proofs.FieldLaws.{field-there}
+use Rattle.format.proofs.ParsedLaws.{then-in, then-out, making-in, making-out, requiring-in, requiring-out}
+use Rattle.fields.proofs.FieldLaws.{field-there, byte-field}
 use Rattle.fields.proofs.Parsing.{Found, found, followed, passed, making-making, row-end, row-step, row-length, row-bound}
 use Rattle.fields.proofs.Steps.{goes-making, stops-making}
-use Rattle.fields.proofs.SeenLaws.{number-told, tells-is}
+use Rattle.fields.proofs.ReadingLaws.{Reading, reading-begin, reading-next, reading-end, captured, capture-read}
+use Rattle.fields.proofs.SeenLaws.{number-told, tells-is, below-nothing, below-put}
 
 -- A capture does not look at those before.
 pub captures-blind : (s : List ℕ) (n at : ℕ) → rowAt (captureAt s) n [] at ≡ rowAt (λ before. captureAt s []) n [] at
@@ -38,22 +39,15 @@ unfolding captureAt
 captures-blind s n at = refl
 
 -- So many captures whose bytes are all there.
-capture-there : (s : List ℕ) (before : List Capture) (at : ℕ) → at + 4 ≤ length s → (k : Capture) × (captureAt s before at ≡ done k (at + 4))
-unfolding captureAt
-capture-there s before at h =
-    let e : at + 3 + 1 ≡ at + 4 = omega arith in (
-      record { place = at; id = field s at 3; number = field s (at + 3) 1 },
-      then-in _ _ (field-there s at 3 (omega arith)) (making-in _ _ (field-there s (at + 3) 1 (omega arith) ∙ ap (done (field s (at + 3) 1)) e) refl),
-    )
-
 pub captures-there : (s : List ℕ) (n : ℕ) (before : List Capture) (at : ℕ) {m : ℕ} → at + n * 4 ≤ length s → m ≡ at + n * 4 → done tt m ≡ forget (rowAt (captureAt s) n before at)
 unfolding making
 captures-there s zero before at {m} h e = let z : m ≡ at = omega arith in ap (done tt) z ∙ sym (ap forget (row-end (captureAt s) 0 before at (omega arith)))
 captures-there s (suc n) before at {m} h e =
-    let d = capture-there s before at (omega arith) in
+    let k = captured s at in
+    let d = capture-read s before at (omega arith) in
     let z : suc n - 1 ≡ n = omega arith in
-    captures-there s n (d .0 ∷ before) (at + 4) (omega arith) (omega arith)
-    ∙ sym (ap forget (row-step (captureAt s) (suc n) before at (omega arith) (d .1) ∙ ap (λ j. making (λ rest. d .0 ∷ rest) (rowAt (captureAt s) j (d .0 ∷ before) (at + 4))) z) ∙ making-making (λ _. tt) (λ rest. d .0 ∷ rest) (rowAt (captureAt s) n (d .0 ∷ before) (at + 4)))
+    captures-there s n (k ∷ before) (at + 4) (omega arith) (omega arith)
+    ∙ sym (ap forget (row-step (captureAt s) (suc n) before at (omega arith) d ∙ ap (λ j. making (λ rest. k ∷ rest) (rowAt (captureAt s) j (k ∷ before) (at + 4))) z) ∙ making-making (λ _. tt) (λ rest. k ∷ rest) (rowAt (captureAt s) n (k ∷ before) (at + 4)))
 
 -- A rule and a child after those that the marks tell of.
 pub rule-told : (g : Rule → ℕ) (s : List ℕ) (before : List Rule) (at : ℕ) (table : List ℕ) {y : Parsed ℕ} → Tells (unmarked table) (map ruleAttention before)
@@ -67,6 +61,39 @@ pub child-told : (g : Child → ℕ) (s : List ℕ) (before : List Child) (at : 
     → y ≡ making g (childAt s true before at)
 unfolding childAt childBitAt
 child-told g s before at table t k = rw (← tells-is t) k
+
+-- A child whose bytes are all there, and whose bit is below 64 and not below those before.
+pub child-read : (s : List ℕ) (before : List Child) (at : ℕ) {bound : ℕ} → Below bound (map childBit before) → at + 4 ≤ length s → bound ≤ getD s at 0 → getD s at 0 < 64
+    → childAt s true before at ≡ done (record { place = at; bit = getD s at 0; id = field s (at + 1) 2; number = field s (at + 3) 1 }) (at + 4)
+unfolding childAt
+child-read s before at b h k l =
+    let e : at + 1 + 2 ≡ at + 3 = omega arith in
+    let f : at + 3 + 1 ≡ at + 4 = omega arith in
+    then-in _ _ (requiring-in _ _ _ _ (requiring-in _ _ _ _ (byte-field s at (omega arith)) (lt-ltb _ _ l)) (b .above _ k))
+    (then-in _ _ (field-there s (at + 1) 2 (omega arith) ∙ ap (done (field s (at + 1) 2)) e) (making-in _ _ (field-there s (at + 3) 1 (omega arith) ∙ ap (done (field s (at + 3) 1)) f) refl))
+
+-- A loop over children whose bits rise: those before are below `bound`, and `left` are to come at `place`, where all their bytes are there.
+pub record RisingChildren (s : List ℕ) (n at bound left place : ℕ) : Type 0 where
+  pub before : List Child
+  pub below : Below bound (map childBit before)
+  pub reading : Reading {F = Unit {0}} (childAt s true) (λ _. []) n at before left place
+  pub there : place + left * 4 ≤ length s
+
+pub rising-first : (s : List ℕ) (n at : ℕ) → at ≤ length s → n * 4 ≤ length s - at → RisingChildren s n at 0 n at
+rising-first s n at h k = record { before = []; below = below-nothing 0; reading = reading-begin _ _ n at; there = omega arith }
+
+module _ {s : List ℕ} {n at bound left place : ℕ} (r : RisingChildren s n at bound left place) where
+  pub rising-child : 0 < left → bound ≤ getD s place 0 → getD s place 0 < 64 → RisingChildren s n at (getD s place 0 + 1) (left - 1) (place + 4)
+  rising-child z b l =
+      record {
+        before = record { place = place; bit = getD s place 0; id = field s (place + 1) 2; number = field s (place + 3) 1 } ∷ r .before;
+        below = below-put (map childBit (r .before)) (getD s place 0) (r .below) b refl refl;
+        reading = reading-next _ _ (r .reading) (child-read s (r .before) place (r .below) (omega (arith, r .there)) b l) refl z;
+        there = omega (arith, r .there);
+      }
+
+  pub rising-all : left ≤ 0 → ChildrenRead s n at place
+  rising-all z = let f = reading-end _ _ (r .reading) z in record { children = f .elements; read = f .read }
 
 -- The attention type of a rule is at most 5, and the bit of a child at most 63.
 pub rule-few : (s : List ℕ) (before : List Rule) (at : ℕ) {v m : ℕ} → done v m ≡ making ruleAttention (ruleAt s true before at) → v < 6

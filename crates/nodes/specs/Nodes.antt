@@ -2,6 +2,7 @@
 use Prim.Native.Nat.{ℕ}
 use mathlib.Core.Bool.{Bool, true}
 use mathlib.Core.List.{List, []}
+use mathlib.Core.Path.{_≡_}
 use lib.ListN.{length}
 use lib.Dec.{ltb}
 use Rattle.format.specs.Parsed.{Parsed, done, andThen, making, requiring, rowAt}
@@ -51,3 +52,8 @@ countsAt s n c at = andThen (countAt s at 1) λ r a. making (λ k. record { numb
 -- So many captures, rules and children.
 unfoldable pub nodeBodyAt : List ℕ → ℕ → ℕ → ℕ → ℕ → Parsed (List Child)
 nodeBodyAt s c r k at = andThen (rowAt (captureAt s) c [] at) λ cs a. andThen (rowAt (ruleAt s true) r [] a) λ rs b. rowAt (childAt s true) k [] b
+
+-- So many children are read at a place, up to another.
+pub record ChildrenRead (s : List ℕ) (n at end : ℕ) : Type 0 where
+  pub children : List Child
+  pub read : rowAt (childAt s true) n [] at ≡ done children end

@@ -25,7 +25,7 @@ ghost use Rattle.format.specs.Tree.{Rule, Child, NodeInstance};
 ghost use Rattle.format.specs.NodeLayout.{captureAt, ruleAt, childAt, instanceHeadAt, nodeInstanceAt, nodeHeadAt};
 ghost use Rattle.tables.specs.Indexed.{Indexed};
 ghost use Rattle.fields.specs.Seen.{unmarked, newAfter, Tells};
-ghost use Rattle.nodes.specs.Nodes.{childBitAt, countsAt, nodeBodyAt};
+ghost use Rattle.nodes.specs.Nodes.{childBitAt, countsAt, nodeBodyAt, ChildrenRead};
 ghost use Rattle.fields.specs.Views.{byteParsed, numberParsed, nextParsed, forget};
 ghost use Rattle.nodes.specs.Nodes.{instanceHeadParsed, nodeHeadParsed, ruleAttention, childBit, nodeNumber};
 
@@ -125,7 +125,7 @@ fn rule_at(s: &[u8], at: usize, seen: &[u8]) -> ByteRead
 }
 
 // The rules of a node instance. It reads each once, a refused one twice.
-fn rules_at(s: &[u8], at: usize, n: u8) -> NextRead
+pub fn rules_at(s: &[u8], at: usize, n: u8) -> NextRead
     ensures { λ r. ⌜ nextParsed r ≡ forget (rowAt (ruleAt (now (s .entry)) true) n [] at) ⌝ }
 {
     let mut seen = [0u8; 6];
@@ -198,7 +198,7 @@ fn child_at(s: &[u8], at: usize, seen: &[u8]) -> ByteRead
 }
 
 // The children of a node instance. It reads each once.
-fn children_at(s: &[u8], at: usize, n: u8) -> NextRead
+pub fn children_at(s: &[u8], at: usize, n: u8) -> NextRead
     ensures { λ r. ⌜ nextParsed r ≡ forget (rowAt (childAt (now (s .entry)) true) n [] at) ⌝ }
 {
     let mut seen = [0u8; 64];
@@ -218,6 +218,34 @@ fn children_at(s: &[u8], at: usize, n: u8) -> NextRead
         left -= 1;
     }
     NextRead::Next(place)
+}
+
+// The place after so many children at a place, where they are there and their bits rise and are below 64; otherwise 0. It looks at each bit once.
+pub fn children_fit(s: &[u8], at: usize, n: u8) -> usize
+    ensures { λ r. ⌜ ((r ≡ 0 → ⊥) → ChildrenRead (now (s .entry)) n at r) ⌝ }
+{
+    if s.len() < at {
+        return 0;
+    }
+    if s.len() - at < n as usize * 4 {
+        return 0;
+    }
+    let mut bound = 0;
+    let mut left = n;
+    let mut place = at;
+    while 0 < left {
+        let b = s[place];
+        if b < bound {
+            return 0;
+        }
+        if 64 <= b {
+            return 0;
+        }
+        bound = b + 1;
+        place += 4;
+        left -= 1;
+    }
+    place
 }
 
 // The rule count and the child count of a node instance whose number and capture count are known.

@@ -7,13 +7,15 @@ use mathlib.Core.Path.{_≡_, refl, sym, _∙_, ap, subst}
 use native.Mathlib.Omega.{arith}
 use lib.Dec.{leb}
 use lib.ListN.{length, take, drop}
+use lib.Seq.{length-take-le}
 use borrow.Author.Tests.{le-leb, lt-leb, leb-true}
 use Rattle.limits.specs.Limits.{limitsOf}
+use Rattle.limits.proofs.LimitsLaws.{registers-within}
 use Rattle.limits.specs.declared.LimitSet.{LimitSet}
 use Rattle.numbers.specs.BigEndian.{Bytes}
 use Rattle.numbers.proofs.Bools.{and-left, and-right, same-truth}
 use Rattle.format.specs.FileLayout.{fileAt}
-use Rattle.format.specs.Lookup.{gathered, entriesOf, nodeEntriesOf, registerEntries, nodeEntries}
+use Rattle.format.specs.Lookup.{gathered, entriesOf, registerEntries, nodeEntries}
 use Rattle.format.specs.Parsed.{Parsed, done, refused, making}
 use Rattle.format.specs.declared.Refusal.{Refusal}
 use Rattle.format.specs.Refusals.{CheckValues, numberOf}
@@ -25,20 +27,22 @@ use Rattle.fields.proofs.Parsing.{missed}
 use Rattle.tables.specs.Indexed.{IndexOf}
 use Rattle.tables.specs.Keys.{registerKeys, nodeKeys}
 use Rattle.tables.specs.Tables.{written}
-use Rattle.tables.proofs.TablesLaws.{written-front}
+use Rattle.tables.proofs.TablesLaws.{written-front, written-length}
 use Rattle.index.specs.Columns.{TablesOf, nodePlaces}
-use Rattle.index.specs.Rows.{Rows, filled, registerRow, nodeRow, pair}
+use Rattle.index.specs.Rows.{Rows, filled, registerRow, pair, entryChildren}
+use Rattle.node_pass.specs.Section.{NodesKept, IndexKept}
 use Rattle.links.specs.Links.{childRow}
 use Rattle.reader.specs.declared.Layout.{Layout}
 use Rattle.reader.specs.declared.LayoutRead
 use Rattle.reader.specs.declared.LayoutRead.{LayoutRead}
 use Rattle.reader.specs.Columns.{childColumn}
+use Rattle.reader.specs.Entries.{EntriesIn, EntriesOf}
 use Rattle.reader.specs.Examined.{Lengths, roomOf, roomForLayout, roomFor, Examined}
 use Rattle.reader.specs.Layout.{Summary, laidOut, layoutParsed, layoutValues, wholeAt}
 use Rattle.reader.proofs.ChildPlacesLaws.{places-length}
 use Rattle.reader.proofs.ColumnsLaws.{child-column}
 use Rattle.reader.proofs.ExamineLaws.{examined-refused}
-use Rattle.reader.proofs.FaultsLaws.{Laid, laid, register-keys, register-kinds, node-tables}
+use Rattle.reader.proofs.FaultsLaws.{Laid, laid, column, register-keys, register-kinds, node-tables}
 use Rattle.reader.proofs.WholeLaws.{whole-out}
 
 -- Room
@@ -161,11 +165,11 @@ module _ (of : LimitSet) (t : Lengths) (s : List ℕ) where
 pub laid-tables : (of : LimitSet) {s : List ℕ} {l : Summary} {end : ℕ} {c : Chip} → Laid (limitsOf of) s l end c → (keys₀ kinds₀ names₀ wanted₀ places₀ : List ℕ) (child : ℕ) {keys kinds names wanted places : List ℕ}
     → Roomy (record { keys = length keys₀; kinds = length kinds₀; names = length names₀; wanted = length wanted₀; places = length places₀; child = child }) (l .registerInstances) (l .nodeInstances)
     → pair keys kinds ≡ filled (pair keys₀ kinds₀) 0 (map registerRow (gathered entriesOf (c .registers)))
-    → _≡_ {A = Rows} (record { keys = names; kinds = wanted; places = places }) (filled (record { keys = names₀; kinds = wanted₀; places = places₀ }) 0 (map nodeRow (gathered nodeEntriesOf (c .nodes))))
+    → {m : ℕ} {a b e d : List ℕ} {fits : Bool} → NodesKept m a b (record { keys = names₀; kinds = wanted₀; places = places₀ }) e (record { keys = names; kinds = wanted; places = places }) d fits (c .nodes)
     → TablesOf c (take (l .registerInstances) keys) (take (l .registerInstances) kinds) (take (l .nodeInstances) names) (take (l .nodeInstances) wanted) (take (l .nodeInstances) places)
 unfolding registerEntries nodeEntries
 laid-tables of {c = c} d keys₀ kinds₀ names₀ wanted₀ places₀ child r e f =
-    let n = node-tables c _ _ (d .nodeCount) (r .names) (r .wanted) (r .places) f in
+    let n = node-tables c (f .base) _ (d .nodeCount) (omega (arith, r .names, f .keys-sized)) (omega (arith, r .wanted, f .kinds-sized)) (omega (arith, r .places, f .places-sized)) (f .rows) in
     record {
       keys-are = register-keys c _ _ (d .registerCount) e (r .keys);
       kinds-are = register-kinds c _ _ (d .registerCount) e (r .kinds);
@@ -173,6 +177,36 @@ laid-tables of {c = c} d keys₀ kinds₀ names₀ wanted₀ places₀ child r e
       wanted-are = n .1;
       places-are = n .2;
     }
+
+-- What is kept of the children of a layout's node instances is that of its chip.
+pub laid-entries : (of : LimitSet) {s : List ℕ} {l : Layout} {end : ℕ} {c : Chip} → Laid (limitsOf of) s (laidOut l) end c → {keys kinds : List ℕ} {t : Rows} {e : List ℕ} {u : Rows} {d : List ℕ}
+    → NodesKept (l .«register_instances») keys kinds t e u d (l .fits) (c .nodes) → EntriesIn c l keys kinds d
+unfolding nodeEntries
+laid-entries of {l = l} {c = c} z {d = d} f =
+    record {
+      entries-are = λ g h.
+          let q = f .names g in
+          let w : length d ≡ length (q .column) = ap length (q .entries-are) ∙ written-length (q .column) 0 (map entryChildren (nodeEntries c)) in
+          column (nodeEntries c) entryChildren (l .«node_instances») (q .column) (z .nodeCount) (omega (arith, h, w)) (q .entries-are);
+      fit = λ g. f .names g .fit;
+    }
+
+-- The part of them that is handed on.
+pub entries-part : (c : Chip) (l : Layout) (keys kinds entries : List ℕ) → EntriesIn c l keys kinds entries → (k : ℕ) → (k ≤ length entries) × (0 < k → (l .fits ≡ true) × (k ≡ l .«node_instances»))
+    → EntriesOf c (take (l .«register_instances») keys) (take (l .«register_instances») kinds) (take k entries)
+entries-part c l keys kinds entries x k h =
+    let w : length (take k entries) ≡ k = length-take-le k entries (h .0) in
+    record {
+      entries-are = λ p.
+          let q = h .1 (omega (arith, p, w)) in
+          ap (λ n. take n entries) (q .1) ∙ x .entries-are (q .0) (omega (arith, h .0, q .1));
+      fit = λ p. let q = h .1 (omega (arith, p, w)) in x .fit (q .0);
+    }
+
+-- So few register instances have an index.
+pub laid-index : (of : LimitSet) {s : List ℕ} {l : Summary} {end : ℕ} {c : Chip} → Laid (limitsOf of) s l end c → {keys kinds index : List ℕ} → IndexKept (l .registerInstances) keys kinds index
+    → l .registerInstances ≤ length keys → l .registerInstances ≤ length kinds → IndexOf index (take (l .registerInstances) keys)
+laid-index of d x h g = x .indexed (omega (arith, d .registerCount, d .registerRoom, registers-within of)) h g
 
 module _ (of : LimitSet) (s : List ℕ) (bytes : Bytes s) (l : Layout) (w : done (laidOut l) (l .end) ≡ wholeAt (limitsOf of) s) where
   abbrev pub the-chip : Chip

@@ -84,7 +84,7 @@ module _ (limits : Limits) (s : List ℕ) (bytes : Bytes s) {l : Summary} {end :
       (omega (arith, d .registerCount, d .registerRoom), omega (arith, d .nodeCount, d .nodeRoom))
 
 -- The tables of a file, filled from the front.
-column : {E : Type 0} (es : List E) (f : E → ℕ) (k : ℕ) (u : List ℕ) → k ≡ length es → k ≤ length u → {t : List ℕ} → t ≡ written u 0 (map f es) → take k t ≡ map f es
+pub column : {E : Type 0} (es : List E) (f : E → ℕ) (k : ℕ) (u : List ℕ) → k ≡ length es → k ≤ length u → {t : List ℕ} → t ≡ written u 0 (map f es) → take k t ≡ map f es
 column es f k u e h d =
     let i : k ≡ length (map f es) = e ∙ sym (length-map es f) in
     ap (take k) d ∙ written-take u (map f es) k i (omega arith)

@@ -1,6 +1,6 @@
 -- The layout of a file and the file's tree.
 use Prim.Native.Nat.{ℕ}
-use mathlib.Core.Path.{_≡_, refl, sym, _∙_, ap}
+use mathlib.Core.Path.{_≡_, refl, sym, _∙_, ap, subst}
 use mathlib.Core.Bool.{true}
 use mathlib.Core.List.{List}
 use native.Mathlib.Omega.{arith}
@@ -18,6 +18,11 @@ use Rattle.fields.specs.declared.SectionRead
 use Rattle.fields.specs.declared.SectionRead.{SectionRead}
 use Rattle.fields.specs.declared.ByteRead
 use Rattle.fields.specs.declared.ByteRead.{ByteRead}
+use Rattle.index.specs.Rows.{Rows}
+use Rattle.node_pass.specs.declared.SectionPass.{SectionPass}
+use Rattle.node_pass.specs.declared.section.NodesRead
+use Rattle.node_pass.specs.declared.section.NodesRead.{NodesRead}
+use Rattle.node_pass.specs.Section.{nodesParsed, NodesKept, IndexKept}
 use Rattle.reader.specs.declared.Layout.{Layout}
 use Rattle.reader.specs.declared.LayoutRead
 use Rattle.reader.specs.declared.LayoutRead.{LayoutRead}
@@ -39,6 +44,18 @@ module _ {A B : Type 0} (g : A → Section) (p : Parsed A) (f : A → ℕ → Pa
   pub section-stop : {r : Refusal} → sectionParsed x ≡ making g p → x ≡ SectionRead.Refused r → y ≡ refusedBy r → y ≡ andThen p f
   unfolding andThen
   section-stop h j k = k ∙ sym (ap (λ q. andThen q f) (missed g p (sym (ap sectionParsed j) ∙ h)))
+
+-- The nodes section, of which the counts are kept, and what follows it.
+module _ {A B : Type 0} (g : A → Section) (p : Parsed A) (f : A → ℕ → Parsed B) {x : NodesRead} {y : Parsed B} where
+  pub nodes-then : {q : SectionPass} → nodesParsed x ≡ making g p → x ≡ NodesRead.Section q → ((a : A) → g a ≡ record { elements = q .nodes; instances = q .total } → y ≡ f a (q .next)) → y ≡ andThen p f
+  unfolding andThen
+  nodes-then {q} h j k =
+      let d : Found {B = Section} g p (record { elements = q .nodes; instances = q .total }) (q .next) = found g p (sym (ap nodesParsed j) ∙ h) in
+      k (d .value) (d .made) ∙ sym (ap (λ z. andThen z f) (d .is))
+
+  pub nodes-stop : {r : Refusal} → nodesParsed x ≡ making g p → x ≡ NodesRead.Refused r → y ≡ refusedBy r → y ≡ andThen p f
+  unfolding andThen
+  nodes-stop h j k = k ∙ sym (ap (λ z. andThen z f) (missed g p (sym (ap nodesParsed j) ∙ h)))
 
 -- The last section, of which the count is kept.
 module _ {A B : Type 0} (g : A → ℕ) (h : A → B) (p : Parsed A) {x : ByteRead} {y : Parsed B} where
@@ -116,3 +133,11 @@ same-registers limit s e rs m d = ap (registersAt limit s true) (ap registersPla
 
 pub no-layout : {A : Type 0} {r : Refusal} {l : Layout} → LayoutRead.Refused r ≡ LayoutRead.Done l → A
 no-layout e = let z : _≡_ {A = ℕ} 0 1 = cc in absurd (omega arith)
+
+-- What is kept of the nodes section by one of two layouts that are one.
+pub same-kept : {l k : Layout} → LayoutRead.Done l ≡ LayoutRead.Done k → {keys kinds : List ℕ} {t : Rows} {c : List ℕ} {u : Rows} {d : List ℕ} {ns : List Node}
+    → NodesKept (l .«register_instances») keys kinds t c u d (l .fits) ns → NodesKept (k .«register_instances») keys kinds t c u d (k .fits) ns
+same-kept {l} {k} e {keys} {kinds} {t} {c} {u} {d} {ns} x = let z : l ≡ k = cc in subst (λ l. NodesKept (l .«register_instances») keys kinds t c u d (l .fits) ns) z x
+
+pub same-index : {l k : Layout} → LayoutRead.Done l ≡ LayoutRead.Done k → {keys kinds index : List ℕ} → IndexKept (l .«register_instances») keys kinds index → IndexKept (k .«register_instances») keys kinds index
+same-index {l} {k} e {keys} {kinds} {index} x = let z : l ≡ k = cc in subst (λ l. IndexKept (l .«register_instances») keys kinds index) z x

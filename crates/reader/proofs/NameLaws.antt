@@ -1,8 +1,8 @@
 -- The faults that the tables show are those of the file.
 use Prim.Native.Nat.{ℕ, _≤_, _<_}
 use mathlib.Core.Bool.{true}
-use mathlib.Core.List.{List, map}
-use mathlib.Core.Path.{_≡_, sym, _∙_, ap, subst}
+use mathlib.Core.List.{List, [], _∷_, _++_, map}
+use mathlib.Core.Path.{_≡_, refl, sym, _∙_, ap, subst}
 use native.Mathlib.Omega.{arith}
 use lib.ListN.{length, length-map}
 use Rattle.limits.proofs.LimitsLaws.{registers-within, nodes-within}
@@ -12,22 +12,23 @@ use Rattle.numbers.specs.BigEndian.{Bytes}
 use Rattle.format.specs.FileLayout.{rootsAt, fileAt}
 use Rattle.format.specs.Lookup.{gathered, registerEntries, NodeEntry, nodeEntries}
 use Rattle.format.specs.Parsed.{Parsed, done, refused}
-use Rattle.format.specs.References.{instanceFaults, rootFaults, referenceFaults}
+use Rattle.format.specs.References.{Fault, instanceFaults, rootFaults, referenceFaults}
 use Rattle.format.specs.Rules.{Every}
 use Rattle.format.specs.Tree.{Root, Chip}
 use Rattle.format.proofs.FileAccepted.{file-out}
 use Rattle.format.proofs.Grouping.{LayoutMeets, layout-out}
 use Rattle.format.proofs.GatheredLaws.{gathered-same}
 use Rattle.format.proofs.ParsedLaws.{then-out, making-out}
-use Rattle.tables.specs.Faults.{judgedAt}
+use Rattle.tables.specs.Faults.{judgedAt, captureFaultsIn, registerNamesIn}
 use Rattle.tables.specs.Keys.{registerKeys, nodeKeys}
 use Rattle.tables.specs.Tables.{written}
 use Rattle.tables.proofs.FaultsLaws.{judged-stop, judged-on}
-use Rattle.index.specs.Rows.{ReadAgain, entryPlace, entryWanted}
+use Rattle.index.specs.Rows.{ReadAgain, entryPlace}
 use Rattle.index.specs.Columns.{TablesOf}
 use Rattle.index.proofs.RowsLaws.{nodes-again}
 use Rattle.links.specs.Links.{childRow}
-use Rattle.references.specs.FaultsIn.{entryFaultsIn, rootFaultsIn}
+use Rattle.node_pass.specs.Passed.{entryNamesIn}
+use Rattle.references.specs.FaultsIn.{childFaultsIn, instanceFaultsIn, entryFaultsIn, rootFaultsIn}
 use Rattle.references.proofs.TablesLaws.{instances-same}
 use Rattle.references.proofs.RootsLaws.{roots-same}
 
@@ -62,6 +63,25 @@ pub children-of : (c : Chip) (nodes table : List ℕ) → nodes ≡ nodeKeys c �
     → t ≡ written table 0 (gathered (λ e. childRow (nodeKeys c) (e .instance)) (nodeEntries c))
 children-of c nodes table e {t} d = subst (λ n. t ≡ written table 0 (gathered (λ e. childRow n (e .instance)) (nodeEntries c))) e d
 
+-- Where every register fits and every child is there, no node instance has a fault.
+no-more : {A : Type 0} (xs ys : List A) → xs ++ ys ≡ [] → (xs ≡ []) × (ys ≡ [])
+no-more [] ys e = (refl, e)
+no-more (x ∷ xs) ys e = let z : _≡_ {A = ℕ} 0 1 = cc in absurd (omega arith)
+
+pub no-faults : (keys kinds nodes : List ℕ) (es : List NodeEntry) → gathered (entryNamesIn keys kinds) es ≡ [] → gathered (λ e. gathered (childFaultsIn nodes) (e .instance .children)) es ≡ []
+    → gathered (entryFaultsIn keys kinds nodes) es ≡ []
+unfolding gathered entryNamesIn registerNamesIn entryFaultsIn instanceFaultsIn
+no-faults keys kinds nodes [] a b = refl
+no-faults keys kinds nodes (e ∷ es) a b =
+    let p = no-more (entryNamesIn keys kinds e) _ a in
+    let q = no-more (gathered (captureFaultsIn keys kinds) (e .instance .captures)) _ (p .0) in
+    let r = no-more (gathered (childFaultsIn nodes) (e .instance .children)) _ b in
+    rw (q .0, q .1, r .0, no-faults keys kinds nodes es (p .1) (r .1))
+
+pub clean-judged : (fs : List Fault) → fs ≡ [] → done tt 0 ≡ judgedAt fs 0
+unfolding judgedAt
+clean-judged fs e = rw e
+
 module _ (limits : Limits) (s : List ℕ) (bytes : Bytes s) (keys kinds nodes wanted places : List ℕ) (c : Chip) (end : ℕ) (file : fileAt limits s true 0 ≡ done c end)
     (tables : TablesOf c keys kinds nodes wanted places) where
   instances-are : gathered (entryFaultsIn keys kinds nodes) (nodeEntries c) ≡ gathered (instanceFaults c) (nodeEntries c)
@@ -73,10 +93,9 @@ module _ (limits : Limits) (s : List ℕ) (bytes : Bytes s) (keys kinds nodes wa
   roots-are : gathered (rootFaultsIn nodes (nodeEntries c)) (c .roots) ≡ gathered (rootFaults c) (c .roots)
   roots-are = let m = layout-meets limits s bytes file in rw (tables .nodes-are) (roots-same c (m .fields) (m .unique))
 
-  module _ {y : Parsed (Unit {0})}
-      (f : (es : List NodeEntry) → Every (ReadAgain s) es → places ≡ map entryPlace es → wanted ≡ map entryWanted es → y ≡ judgedAt (gathered (entryFaultsIn keys kinds nodes) es) 0) where
+  module _ {y : Parsed (Unit {0})} (f : y ≡ judgedAt (gathered (entryFaultsIn keys kinds nodes) (nodeEntries c)) 0) where
     nodes-judged : y ≡ judgedAt (gathered (instanceFaults c) (nodeEntries c)) 0
-    nodes-judged = f (nodeEntries c) (entries-again limits s file) (tables .places-are) (tables .wanted-are) ∙ ap (λ z. judgedAt z 0) instances-are
+    nodes-judged = f ∙ ap (λ z. judgedAt z 0) instances-are
 
     -- A node instance's fault decides.
     pub names-refused : {n p : ℕ} → y ≡ refused n p → refused n p ≡ judgedAt (referenceFaults c) end

@@ -2,5 +2,6 @@
 pub mod Roots
 pub mod Layout
 pub mod Columns
+pub mod Entries
 pub mod Examined
 pub mod Classes

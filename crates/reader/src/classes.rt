@@ -50,6 +50,7 @@ fn examine_small(s: &[u8]) -> LayoutRead
     let mut places = [0u64; SMALL_NODES];
     let mut node_index = [0u16; SMALL_NODES * 2 + 32];
     let mut child = [0u16; SMALL_NODES * 64];
+    let mut entries = [0u64; SMALL_NODES];
     examine_in(
         s,
         LimitSet::Library,
@@ -61,6 +62,7 @@ fn examine_small(s: &[u8]) -> LayoutRead
         &mut places,
         &mut node_index,
         &mut child,
+        &mut entries,
     )
 }
 
@@ -77,6 +79,7 @@ fn examine_middle(s: &[u8]) -> LayoutRead
     let mut places = [0u64; MIDDLE_NODES];
     let mut node_index = [0u16; MIDDLE_NODES * 2 + 32];
     let mut child = [0u16; MIDDLE_NODES * 64];
+    let mut entries = [0u64; MIDDLE_NODES];
     examine_in(
         s,
         LimitSet::Library,
@@ -88,6 +91,7 @@ fn examine_middle(s: &[u8]) -> LayoutRead
         &mut places,
         &mut node_index,
         &mut child,
+        &mut entries,
     )
 }
 
@@ -104,6 +108,7 @@ fn examine_large(s: &[u8]) -> LayoutRead
     let mut places = [0u64; LARGE_NODES];
     let mut node_index = [0u16; LARGE_NODES * 2 + 32];
     let mut child = [0u16; LARGE_NODES * 64];
+    let mut entries = [0u64; LARGE_NODES];
     examine_in(
         s,
         LimitSet::Library,
@@ -115,6 +120,7 @@ fn examine_large(s: &[u8]) -> LayoutRead
         &mut places,
         &mut node_index,
         &mut child,
+        &mut entries,
     )
 }
 
@@ -131,6 +137,7 @@ fn examine_full(s: &[u8]) -> LayoutRead
     let mut places = [0u64; FULL_NODES];
     let mut node_index = [0u16; FULL_NODES * 2 + 32];
     let mut child = [0u16; FULL_NODES * 64];
+    let mut entries = [0u64; FULL_NODES];
     examine_in(
         s,
         LimitSet::Library,
@@ -142,6 +149,7 @@ fn examine_full(s: &[u8]) -> LayoutRead
         &mut places,
         &mut node_index,
         &mut child,
+        &mut entries,
     )
 }
 

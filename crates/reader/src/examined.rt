@@ -7,7 +7,7 @@ use fields::NextRead;
 use format::Kind;
 use format::Refusal;
 use limits::LimitSet;
-ghost use Prim.Native.Nat.{ℕ, _*_, _≤_};
+ghost use Prim.Native.Nat.{ℕ, _*_, _≤_, _<_};
 ghost use mathlib.Core.Bool.{true, cond};
 ghost use mathlib.Core.List.{_++_};
 ghost use mathlib.Core.Path.{_≡_};
@@ -16,7 +16,7 @@ ghost use Rattle.limits.specs.declared.LimitSet.{LimitSet};
 ghost use Rattle.limits.specs.Limits.{limitsOf};
 ghost use Rattle.format.specs.Cycles.{cycleFaults};
 ghost use Rattle.format.specs.FileLayout.{rootsAt, fileAt};
-ghost use Rattle.format.specs.Lookup.{gathered, nodeEntries};
+ghost use Rattle.format.specs.Lookup.{nodeEntries};
 ghost use Rattle.format.specs.Parsed.{done, refused, making};
 ghost use Rattle.format.specs.References.{referenceFaults};
 ghost use Rattle.format.specs.Tree.{Chip};
@@ -25,12 +25,10 @@ ghost use Rattle.fields.specs.declared.NextRead.{NextRead};
 ghost use Rattle.fields.specs.Views.{nextParsed};
 ghost use Rattle.tables.specs.Faults.{judgedAt};
 ghost use Rattle.tables.specs.Indexed.{IndexOf};
-ghost use Rattle.tables.specs.Keys.{nodeKeys};
-ghost use Rattle.tables.specs.Tables.{written};
 ghost use Rattle.index.specs.Columns.{TablesOf};
-ghost use Rattle.links.specs.Links.{childRow};
 ghost use Rattle.reader.specs.declared.Layout.{Layout};
 ghost use Rattle.reader.specs.declared.LayoutRead.{LayoutRead};
+ghost use Rattle.reader.specs.Entries.{EntriesIn, Linked};
 ghost use Rattle.reader.specs.Examined.{lengthsOf, roomOf, roomFor, Examined};
 ghost use Rattle.reader.specs.Layout.{layoutParsed, layoutValues};
 
@@ -67,17 +65,30 @@ fn has_room(
     n <= child / 64
 }
 
-// The first fault of 12 to 14 of a file whose layout was read, by tables with room for it; where there is none, the place after the roots section, and the indexes and the children are in
-// the tables.
+// How many entries of a column of so many are those of n node instances: all n where every register fits, otherwise none.
+fn kept(fits: bool, n: usize, entries: usize) -> usize
+    ensures { λ r. ⌜ (r ≤ entries) × (0 < r → (fits ≡ true) × (r ≡ n)) ⌝ }
+{
+    if fits {
+        if n <= entries {
+            return n;
+        }
+    }
+    0
+}
+
+// The first fault of 12 to 14 of a file whose layout was read, by tables with room for it; where there is none, the place after the roots section, and the children are in the
+// table of children.
 fn judge(
     s: &[u8],
     l: Layout,
     keys: &[u64],
     kinds: &[u64],
-    index: &mut [u16],
+    index: &[u16],
     names: &[u64],
     wanted: &[u64],
     places: &[u64],
+    entries: &[u64],
     node_index: &mut [u16],
     child: &mut [u16],
 ) -> NextRead
@@ -86,17 +97,21 @@ fn judge(
         → fileAt (limitsOf of) (now (s .entry)) true 0 ≡ done c (l .end)
         → rootsAt (now (s .entry)) true (l .«roots_at») ≡ done (c .roots) (l .end)
         → TablesOf c (take (l .«register_instances») (now (keys .entry))) (take (l .«register_instances») (now (kinds .entry))) (take (l .«node_instances») (now (names .entry))) (take (l .«node_instances») (now (wanted .entry))) (take (l .«node_instances») (now (places .entry)))
+        → EntriesIn c l (now (keys .entry)) (now (kinds .entry)) (now (entries .entry))
+        → IndexOf (now (index .entry)) (take (l .«register_instances») (now (keys .entry)))
         → length (nodeEntries c) * 64 ≤ length (now (child .entry))
         → nextParsed r ≡ judgedAt (referenceFaults c ++ cycleFaults c) (l .end)) ⌝ }
     ensures { λ r. ⌜ ((of : LimitSet) (c : Chip) (next : ℕ)
         → r ≡ NextRead.Next next
         → fileAt (limitsOf of) (now (s .entry)) true 0 ≡ done c (l .end)
         → TablesOf c (take (l .«register_instances») (now (keys .entry))) (take (l .«register_instances») (now (kinds .entry))) (take (l .«node_instances») (now (names .entry))) (take (l .«node_instances») (now (wanted .entry))) (take (l .«node_instances») (now (places .entry)))
-        → IndexOf (now (index .exit)) (take (l .«register_instances») (now (keys .entry)))
-        × (now (child .exit) ≡ written (now (child .entry)) 0 (gathered (λ e. childRow (nodeKeys c) (e .instance)) (nodeEntries c)))) ⌝ }
+        → EntriesIn c l (now (keys .entry)) (now (kinds .entry)) (now (entries .entry))
+        → IndexOf (now (index .entry)) (take (l .«register_instances») (now (keys .entry)))
+        → Linked c (now (child .entry)) (now (child .exit))) ⌝ }
 {
     let m = l.register_instances;
     let n = l.node_instances;
+    let k = kept(l.fits, n, entries.len());
     table_faults(
         s,
         l.roots_at,
@@ -105,6 +120,7 @@ fn judge(
         &names[..n],
         &wanted[..n],
         &places[..n],
+        &entries[..k],
         index,
         node_index,
         child,
@@ -124,6 +140,7 @@ pub fn examine_in(
     places: &mut [u64],
     node_index: &mut [u16],
     child: &mut [u16],
+    entries: &mut [u64],
 ) -> LayoutRead
     ensures { λ r. ⌜ making layoutValues (layoutParsed r)
         ≡ cond (roomFor (limitsOf of) (lengthsOf (now (keys .entry)) (now (kinds .entry)) (now (names .entry)) (now (wanted .entry)) (now (places .entry)) (now (child .entry))) (now (s .entry)))
@@ -132,7 +149,7 @@ pub fn examine_in(
         → r ≡ LayoutRead.Done l
         → Examined of (now (s .entry)) l (now (keys .exit)) (now (index .exit)) (now (names .exit)) (now (places .exit)) (now (child .exit))) ⌝ }
 {
-    let w = whole(s, of, keys, kinds, names, wanted, places);
+    let w = whole(s, of, keys, kinds, index, names, wanted, places, entries);
     match w {
         LayoutRead::Done(l) => {
             if has_room(
@@ -153,6 +170,7 @@ pub fn examine_in(
                     names,
                     wanted,
                     places,
+                    entries,
                     node_index,
                     child,
                 );

@@ -3,6 +3,7 @@ use cycles::first_cycle;
 use fields::NextRead;
 use format::Kind;
 use format::Refusal;
+use references::children::link_children;
 use references::node_faults;
 use references::roots::root_faults;
 use tables::positions::enter_all;
@@ -28,9 +29,10 @@ ghost use Rattle.tables.specs.Keys.{nodeKeys};
 ghost use Rattle.tables.specs.Tables.{written};
 ghost use Rattle.index.specs.Columns.{nodePlaces, TablesOf};
 ghost use Rattle.links.specs.Links.{childRow};
+ghost use Rattle.reader.specs.Entries.{EntriesOf, Linked};
 
-// The first fault of 12 and 13, by the file's tables; where there is none, the place after the roots section, and the children of each node instance are in `child`.
-fn name_faults(
+// The first fault of 12 and 13, by the file's tables; where there is none, the place after the roots section, and the children of each node instance are in `child`. It reads each node instance again.
+fn exact_faults(
     s: &[u8],
     roots_at: usize,
     index: &[u16],
@@ -74,6 +76,69 @@ fn name_faults(
     }
 }
 
+// The first fault of 12 and 13, by the file's tables; where there is none, the place after the roots section, and the children of each node instance are in `child`. `entries` is empty, or
+// holds what is kept of the children of each node instance.
+fn name_faults(
+    s: &[u8],
+    roots_at: usize,
+    index: &[u16],
+    keys: &[u64],
+    kinds: &[u64],
+    node_index: &[u16],
+    nodes: &[u64],
+    wanted: &[u64],
+    places: &[u64],
+    entries: &[u64],
+    child: &mut [u16],
+) -> NextRead
+    ensures { λ r. ⌜ ((of : LimitSet) (c : Chip) (end : ℕ)
+        → fileAt (limitsOf of) (now (s .entry)) true 0 ≡ done c end
+        → rootsAt (now (s .entry)) true «roots_at» ≡ done (c .roots) end
+        → TablesOf c (now (keys .entry)) (now (kinds .entry)) (now (nodes .entry)) (now (wanted .entry)) (now (places .entry))
+        → EntriesOf c (now (keys .entry)) (now (kinds .entry)) (now (entries .entry))
+        → IndexOf (now (index .entry)) (now (keys .entry))
+        → IndexOf (now («node_index» .entry)) (now (nodes .entry))
+        → nextParsed r ≡ judgedAt (referenceFaults c) end) ⌝ }
+    ensures { λ r. ⌜ ((of : LimitSet) (c : Chip) (end next : ℕ)
+        → r ≡ NextRead.Next next
+        → fileAt (limitsOf of) (now (s .entry)) true 0 ≡ done c end
+        → TablesOf c (now (keys .entry)) (now (kinds .entry)) (now (nodes .entry)) (now (wanted .entry)) (now (places .entry))
+        → EntriesOf c (now (keys .entry)) (now (kinds .entry)) (now (entries .entry))
+        → IndexOf (now (index .entry)) (now (keys .entry))
+        → IndexOf (now («node_index» .entry)) (now (nodes .entry))
+        → Linked c (now (child .entry)) (now (child .exit))) ⌝ }
+{
+    if entries.len() == 0 {
+        return exact_faults(
+            s,
+            roots_at,
+            index,
+            keys,
+            kinds,
+            node_index,
+            nodes,
+            wanted,
+            places,
+            child,
+        );
+    }
+    if link_children(s, entries, node_index, nodes, child) {
+        return root_faults(s, roots_at, places, nodes);
+    }
+    exact_faults(
+        s,
+        roots_at,
+        index,
+        keys,
+        kinds,
+        node_index,
+        nodes,
+        wanted,
+        places,
+        child,
+    )
+}
+
 // 14 where the child entries make a cycle, by the table of children; otherwise the place that is given.
 fn cycle_fault(child: &[u16], places: &[u64], next: usize) -> NextRead
     ensures { λ r. ⌜ ((of : LimitSet) (s : List ℕ) (c : Chip) (end : ℕ) (table : List ℕ)
@@ -97,7 +162,7 @@ fn cycle_fault(child: &[u16], places: &[u64], next: usize) -> NextRead
 }
 
 // The first fault of 12 to 14, by the file's tables; where there is none, the place after the roots section, and the children of each node instance are in `child`. An index over
-// the names of the register instances, and one over those of the node instances, are in `index` and `node_index`.
+// the names of the register instances is in `index`, and one over those of the node instances comes to `node_index`. `entries` is empty, or holds what is kept of the children of each node instance.
 pub fn table_faults(
     s: &[u8],
     roots_at: usize,
@@ -106,7 +171,8 @@ pub fn table_faults(
     nodes: &[u64],
     wanted: &[u64],
     places: &[u64],
-    index: &mut [u16],
+    entries: &[u64],
+    index: &[u16],
     node_index: &mut [u16],
     child: &mut [u16],
 ) -> NextRead
@@ -114,16 +180,18 @@ pub fn table_faults(
         → fileAt (limitsOf of) (now (s .entry)) true 0 ≡ done c end
         → rootsAt (now (s .entry)) true «roots_at» ≡ done (c .roots) end
         → TablesOf c (now (keys .entry)) (now (kinds .entry)) (now (nodes .entry)) (now (wanted .entry)) (now (places .entry))
+        → EntriesOf c (now (keys .entry)) (now (kinds .entry)) (now (entries .entry))
+        → IndexOf (now (index .entry)) (now (keys .entry))
         → length (nodeEntries c) * 64 ≤ length (now (child .entry))
         → nextParsed r ≡ judgedAt (referenceFaults c ++ cycleFaults c) end) ⌝ }
     ensures { λ r. ⌜ ((of : LimitSet) (c : Chip) (end next : ℕ)
         → r ≡ NextRead.Next next
         → fileAt (limitsOf of) (now (s .entry)) true 0 ≡ done c end
         → TablesOf c (now (keys .entry)) (now (kinds .entry)) (now (nodes .entry)) (now (wanted .entry)) (now (places .entry))
-        → IndexOf (now (index .exit)) (now (keys .entry))
-        × (now (child .exit) ≡ written (now (child .entry)) 0 (gathered (λ e. childRow (nodeKeys c) (e .instance)) (nodeEntries c)))) ⌝ }
+        → EntriesOf c (now (keys .entry)) (now (kinds .entry)) (now (entries .entry))
+        → IndexOf (now (index .entry)) (now (keys .entry))
+        → Linked c (now (child .entry)) (now (child .exit))) ⌝ }
 {
-    enter_all(keys, index);
     enter_all(nodes, node_index);
     let f = name_faults(
         s,
@@ -135,6 +203,7 @@ pub fn table_faults(
         nodes,
         wanted,
         places,
+        entries,
         child,
     );
     match f {

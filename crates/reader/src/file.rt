@@ -8,46 +8,53 @@ use fields::NumberRead;
 use fields::SectionRead;
 use format::Kind;
 use format::Refusal;
-use index::node_rows::nodes_at;
 use limits::LimitSet;
 use limits::bytes;
+use node_pass::section::NodesRead;
+use node_pass::section::nodes_at;
 use register_rows::registers_at;
 ghost use Prim.Native.Nat.{ℕ};
 ghost use mathlib.Core.Bool.{true};
 ghost use mathlib.Core.List.{List, map};
 ghost use mathlib.Core.Path.{_≡_};
 ghost use Rattle.limits.specs.Limits.{limitsOf};
-ghost use Rattle.format.specs.Lookup.{gathered, entriesOf, nodeEntriesOf};
+ghost use Rattle.format.specs.Lookup.{gathered, entriesOf};
 ghost use Rattle.format.specs.NodeLayout.{nodesAt};
 ghost use Rattle.format.specs.Parsed.{done};
 ghost use Rattle.format.specs.RegisterLayout.{registersAt};
 ghost use Rattle.format.specs.Tree.{Register, Node};
-ghost use Rattle.index.specs.Rows.{Rows, filled, registerRow, nodeRow, pair};
+ghost use Rattle.index.specs.Rows.{filled, registerRow, pair};
+ghost use Rattle.node_pass.specs.Section.{NodesKept, IndexKept};
 ghost use Rattle.reader.specs.declared.Layout.{Layout};
 ghost use Rattle.reader.specs.declared.LayoutRead.{LayoutRead};
 ghost use Rattle.reader.specs.Layout.{layoutParsed, layoutAt, wholeAt};
 
-// The layout of a file that starts at the slice's first byte, with the rows of its register instances and node instances. It reads each byte of the file at most once, but for a refused expression, for the instances of a register whose numbers do not rise, and for a section whose IDs do not.
+// The layout of a file that starts at the slice's first byte, with the rows of its register instances and node instances, and an index over the names of the former. It reads each byte of the file at most once, but for a rule with a register that does not fit, for children whose bits do not rise, for the instances of a register whose numbers do not rise, for a section whose IDs do not, and for a nodes section that is refused or in which the instance numbers of a node do not rise.
 fn layout(
     s: &[u8],
     of: LimitSet,
     keys: &mut [u64],
     kinds: &mut [u64],
+    index: &mut [u16],
     names: &mut [u64],
     wanted: &mut [u64],
     places: &mut [u64],
+    entries: &mut [u64],
 ) -> LayoutRead
     ensures { λ r. ⌜ layoutParsed r ≡ layoutAt (limitsOf of) (now (s .entry)) 0 ⌝ }
     ensures { λ r. ⌜ ((l : Layout) (ns : List Node) (m : ℕ)
         → r ≡ LayoutRead.Done l
         → nodesAt (limitsOf of .nodeInstances) (now (s .entry)) true (l .«nodes_at») ≡ done ns m
-        → _≡_ {A = Rows}
-        (record { keys = now (names .exit); kinds = now (wanted .exit); places = now (places .exit) })
-        (filled (record { keys = now (names .entry); kinds = now (wanted .entry); places = now (places .entry) }) 0 (map nodeRow (gathered nodeEntriesOf ns)))) ⌝ }
+        → NodesKept (l .«register_instances») (now (keys .exit)) (now (kinds .exit))
+        (record { keys = now (names .entry); kinds = now (wanted .entry); places = now (places .entry) }) (now (entries .entry))
+        (record { keys = now (names .exit); kinds = now (wanted .exit); places = now (places .exit) }) (now (entries .exit)) (l .fits) ns) ⌝ }
     ensures { λ r. ⌜ ((l : Layout) (rs : List Register) (m : ℕ)
         → r ≡ LayoutRead.Done l
         → registersAt (limitsOf of .registerInstances) (now (s .entry)) true (l .«registers_at») ≡ done rs m
         → pair (now (keys .exit)) (now (kinds .exit)) ≡ filled (pair (now (keys .entry)) (now (kinds .entry))) 0 (map registerRow (gathered entriesOf rs))) ⌝ }
+    ensures { λ r. ⌜ ((l : Layout)
+        → r ≡ LayoutRead.Done l
+        → IndexKept (l .«register_instances») (now (keys .exit)) (now (kinds .exit)) (now (index .exit))) ⌝ }
 {
     let start = start_at(s, 0);
     match start {
@@ -55,27 +62,40 @@ fn layout(
             let first = registers_at(s, a, of, keys, kinds);
             match first {
                 SectionRead::Section(registers, register_instances, b) => {
-                    let second = nodes_at(s, b, of, names, wanted, places);
+                    let second = nodes_at(
+                        s,
+                        b,
+                        of,
+                        register_instances,
+                        keys,
+                        kinds,
+                        index,
+                        names,
+                        wanted,
+                        places,
+                        entries,
+                    );
                     match second {
-                        SectionRead::Section(nodes, node_instances, c) => {
-                            let third = roots_at(s, c);
+                        NodesRead::Section(p) => {
+                            let third = roots_at(s, p.next);
                             match third {
                                 ByteRead::Byte(roots, end) => LayoutRead::Done(Layout {
                                     model,
                                     registers,
                                     register_instances,
-                                    nodes,
-                                    node_instances,
+                                    nodes: p.nodes,
+                                    node_instances: p.total,
                                     roots: roots as usize,
                                     registers_at: a,
                                     nodes_at: b,
-                                    roots_at: c,
+                                    roots_at: p.next,
                                     end,
+                                    fits: p.fits,
                                 }),
                                 ByteRead::Refused(r) => LayoutRead::Refused(r),
                             }
                         }
-                        SectionRead::Refused(r) => LayoutRead::Refused(r),
+                        NodesRead::Refused(r) => LayoutRead::Refused(r),
                     }
                 }
                 SectionRead::Refused(r) => LayoutRead::Refused(r),
@@ -91,21 +111,26 @@ pub fn whole(
     of: LimitSet,
     keys: &mut [u64],
     kinds: &mut [u64],
+    index: &mut [u16],
     names: &mut [u64],
     wanted: &mut [u64],
     places: &mut [u64],
+    entries: &mut [u64],
 ) -> LayoutRead
     ensures { λ r. ⌜ layoutParsed r ≡ wholeAt (limitsOf of) (now (s .entry)) ⌝ }
     ensures { λ r. ⌜ ((l : Layout) (ns : List Node) (m : ℕ)
         → r ≡ LayoutRead.Done l
         → nodesAt (limitsOf of .nodeInstances) (now (s .entry)) true (l .«nodes_at») ≡ done ns m
-        → _≡_ {A = Rows}
-        (record { keys = now (names .exit); kinds = now (wanted .exit); places = now (places .exit) })
-        (filled (record { keys = now (names .entry); kinds = now (wanted .entry); places = now (places .entry) }) 0 (map nodeRow (gathered nodeEntriesOf ns)))) ⌝ }
+        → NodesKept (l .«register_instances») (now (keys .exit)) (now (kinds .exit))
+        (record { keys = now (names .entry); kinds = now (wanted .entry); places = now (places .entry) }) (now (entries .entry))
+        (record { keys = now (names .exit); kinds = now (wanted .exit); places = now (places .exit) }) (now (entries .exit)) (l .fits) ns) ⌝ }
     ensures { λ r. ⌜ ((l : Layout) (rs : List Register) (m : ℕ)
         → r ≡ LayoutRead.Done l
         → registersAt (limitsOf of .registerInstances) (now (s .entry)) true (l .«registers_at») ≡ done rs m
         → pair (now (keys .exit)) (now (kinds .exit)) ≡ filled (pair (now (keys .entry)) (now (kinds .entry))) 0 (map registerRow (gathered entriesOf rs))) ⌝ }
+    ensures { λ r. ⌜ ((l : Layout)
+        → r ≡ LayoutRead.Done l
+        → IndexKept (l .«register_instances») (now (keys .exit)) (now (kinds .exit)) (now (index .exit))) ⌝ }
 {
     if bytes(of) < s.len() {
         return LayoutRead::Refused(Refusal {
@@ -113,7 +138,7 @@ pub fn whole(
             place: 0,
         });
     }
-    let read = layout(s, of, keys, kinds, names, wanted, places);
+    let read = layout(s, of, keys, kinds, index, names, wanted, places, entries);
     match read {
         LayoutRead::Done(l) => {
             let end = l.end;

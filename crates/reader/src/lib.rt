@@ -18,7 +18,7 @@ mod file;
 mod roots;
 pub mod wanted;
 
-// Where a file's sections begin, and what it holds.
+// Where a file's sections begin, and what it holds; and whether every register that captures and rules name was found to fit while it was read.
 pub struct Layout {
     pub model: u64,
     pub registers: usize,
@@ -30,6 +30,7 @@ pub struct Layout {
     pub nodes_at: usize,
     pub roots_at: usize,
     pub end: usize,
+    pub fits: bool,
 }
 
 // The layout of a file, or a refusal: the first of 1 to 11 in byte order; of a file that was examined that of 1 to 14, or 43 where a table is too short.

@@ -5,3 +5,4 @@ pub mod TablesLaws
 pub mod ScanLaws
 pub mod RootsLaws
 pub mod CapturesLaws
+pub mod LinkingLaws

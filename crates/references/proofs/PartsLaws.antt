@@ -13,7 +13,7 @@ use Rattle.format.specs.NodeLayout.{InstanceHead, captureAt, ruleAt, childAt, i
 use Rattle.format.specs.Parsed.{Parsed, done, refused, rowAt}
 use Rattle.format.specs.References.{unless, namedBy}
 use Rattle.format.specs.Tree.{Capture, Rule, Child, NodeInstance, Expr}
-use Rattle.tables.specs.Faults.{judgedAt, positionIn, present, registerFaultsIn, nameFaults}
+use Rattle.tables.specs.Faults.{judgedAt, positionIn, present, registerFaultsIn, nameFaults, captureFaultsIn, ruleFaultsIn}
 use Rattle.tables.specs.Kinds.{readableKind}
 use Rattle.tables.specs.Tables.{written}
 use Rattle.tables.proofs.FaultsLaws.{judged-stop, judged-on}
@@ -21,7 +21,7 @@ use Rattle.index.proofs.Again.{same-done, not-refused}
 use Rattle.index.proofs.PartsLaws.{naming-id, naming-number, naming-all, capture-fields, rule-fields, child-fields, Parts, instance-parts}
 use Rattle.links.specs.Links.{childNumber, childrenPut, childless, childRow}
 use Rattle.links.proofs.ChildrenLaws.{children-small, link-next, row-put}
-use Rattle.references.specs.FaultsIn.{captureFaultsIn, ruleFaultsIn, childFaultsIn, instanceFaultsIn}
+use Rattle.references.specs.FaultsIn.{childFaultsIn, instanceFaultsIn}
 
 -- The name of a child, found at position k of the keys of the node instances.
 module _ (keys : List ℕ) (id number at next : ℕ) {k : ℕ} (e : k ≡ positionIn keys id number) where

@@ -17,12 +17,12 @@ use Rattle.format.specs.Tree.{Capture, Rule, Child, Chip}
 use Rattle.format.proofs.EveryLaws.{every-map, every-both, every-gathered-out}
 use Rattle.format.proofs.GatheredLaws.{gathered-same}
 use Rattle.format.proofs.PositionsLaws.{every-at, position-at, some-at, register-position}
-use Rattle.tables.specs.Faults.{registerFaultsIn, nameFaults}
+use Rattle.tables.specs.Faults.{registerFaultsIn, nameFaults, captureFaultsIn, ruleFaultsIn}
 use Rattle.tables.specs.Keys.{registerKeys, nodeKeys}
 use Rattle.tables.specs.Kinds.{kindOf, wantedKind, readableKind}
 use Rattle.tables.proofs.ColumnLaws.{column-at}
 use Rattle.index.specs.Columns.{registerKinds}
-use Rattle.references.specs.FaultsIn.{captureFaultsIn, ruleFaultsIn, childFaultsIn, instanceFaultsIn}
+use Rattle.references.specs.FaultsIn.{childFaultsIn, instanceFaultsIn}
 use Rattle.tables.proofs.KeysLaws.{Fitting, names-fit, registers-fit, register-position-in, register-present, node-present}
 use Rattle.tables.proofs.KindsLaws.{kind-readable, kind-same}
 use Rattle.format.proofs.PositionsLaws.{some-position, some-out}

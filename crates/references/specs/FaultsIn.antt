@@ -3,18 +3,10 @@ use Prim.Native.Nat.{ℕ}
 use mathlib.Core.Bool.{Bool}
 use mathlib.Core.List.{List, _++_}
 use Rattle.format.specs.Lookup.{some, at, gathered, NodeEntry}
-use Rattle.format.specs.References.{Fault, unless, namedBy, hasRule}
-use Rattle.format.specs.Tree.{Capture, Rule, Child, NodeInstance, Root}
-use Rattle.tables.specs.Faults.{positionIn, present, registerFaultsIn, nameFaults}
-use Rattle.tables.specs.Kinds.{wantedKind, readableKind}
-
--- A capture of a register instance that is absent, or not readable.
-unfoldable pub captureFaultsIn : List ℕ → List ℕ → Capture → List Fault
-captureFaultsIn keys kinds k = registerFaultsIn keys kinds readableKind (k .id) (k .number) (k .place)
-
--- What is wrong with the registers that a rule names.
-unfoldable pub ruleFaultsIn : List ℕ → List ℕ → ℕ → Rule → List Fault
-ruleFaultsIn keys kinds kind r = gathered (nameFaults keys kinds kind) (namedBy (r .expression))
+use Rattle.format.specs.References.{Fault, unless, hasRule}
+use Rattle.format.specs.Tree.{Child, NodeInstance, Root}
+use Rattle.tables.specs.Faults.{positionIn, present, captureFaultsIn, ruleFaultsIn}
+use Rattle.tables.specs.Kinds.{wantedKind}
 
 -- A child that is absent.
 unfoldable pub childFaultsIn : List ℕ → Child → List Fault

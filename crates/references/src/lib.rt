@@ -26,13 +26,14 @@ ghost use Rattle.format.specs.Rules.{Every};
 ghost use Rattle.format.specs.Tree.{Capture, Rule, Child, NodeInstance};
 ghost use Rattle.fields.specs.declared.NextRead.{NextRead};
 ghost use Rattle.fields.specs.Views.{nextParsed};
-ghost use Rattle.tables.specs.Faults.{judgedAt, positionIn, present};
+ghost use Rattle.tables.specs.Faults.{judgedAt, positionIn, present, captureFaultsIn, ruleFaultsIn};
 ghost use Rattle.tables.specs.Indexed.{IndexOf};
 ghost use Rattle.tables.specs.Tables.{written};
 ghost use Rattle.index.specs.Rows.{ReadAgain, entryPlace, entryWanted};
 ghost use Rattle.links.specs.Links.{childNumber, childrenPut, childRow};
-ghost use Rattle.references.specs.FaultsIn.{captureFaultsIn, ruleFaultsIn, childFaultsIn, instanceFaultsIn, entryFaultsIn};
+ghost use Rattle.references.specs.FaultsIn.{childFaultsIn, instanceFaultsIn, entryFaultsIn};
 
+pub mod children;
 pub mod roots;
 
 // A child's name, which has to be among the keys: 12 at `at` where it is not; otherwise the place after it, with its position among the keys at its bit of the places of `child` from place k on.

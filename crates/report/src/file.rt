@@ -158,6 +158,7 @@ fn isolate_in(
         places,
         node_index,
         child,
+        unread,
     );
     match e {
         LayoutRead::Done(l) => isolate_named(

@@ -4,9 +4,11 @@ use mathlib.Core.Bool.{Bool}
 use mathlib.Core.List.{List, [], _∷_, _++_}
 use lib.Dec.{ltb, eqb}
 use lib.ListN.{length, getD}
-use Rattle.format.specs.Lookup.{position}
+use Rattle.format.specs.Lookup.{position, gathered}
 use Rattle.format.specs.Parsed.{Parsed, done, refused}
-use Rattle.format.specs.References.{Named, Fault, unless}
+use Rattle.format.specs.References.{Named, Fault, unless, namedBy}
+use Rattle.format.specs.Tree.{Capture, Rule, NodeInstance}
+use Rattle.tables.specs.Kinds.{readableKind}
 use Rattle.tables.specs.Tables.{keyOf}
 
 -- The first fault decides; where there is none, reading goes on at a place.
@@ -31,3 +33,15 @@ module _ (keys : List ℕ) where
   -- A register that a rule names, whose registers have to be of this kind.
   unfoldable pub nameFaults : List ℕ → ℕ → Named → List Fault
   nameFaults kinds kind n = registerFaultsIn kinds (λ k. eqb k kind) (n .id) (n .number) (n .place)
+
+  -- A capture of a register instance that is absent, or not readable.
+  unfoldable pub captureFaultsIn : List ℕ → Capture → List Fault
+  captureFaultsIn kinds k = registerFaultsIn kinds readableKind (k .id) (k .number) (k .place)
+
+  -- What is wrong with the registers that a rule names.
+  unfoldable pub ruleFaultsIn : List ℕ → ℕ → Rule → List Fault
+  ruleFaultsIn kinds kind r = gathered (nameFaults kinds kind) (namedBy (r .expression))
+
+  -- What is wrong with the registers that the captures and rules of a node instance name.
+  unfoldable pub registerNamesIn : List ℕ → ℕ → NodeInstance → List Fault
+  registerNamesIn kinds kind i = gathered (captureFaultsIn kinds) (i .captures) ++ gathered (ruleFaultsIn kinds kind) (i .rules)

@@ -51,6 +51,7 @@ pub +fit-at-spec : {M : Type 1} → statement M
     (λ c κs. search needs)
     (λ c. λ i. unsaid)
     (λ c. omega (arith, c .before .opening-at .ensures (c .if1 .left) .within))
+    (λ c. omega (arith, c .before .before .opening-at .ensures (c .before .if1 .left) .within))
     (λ c κs. omega (arith, c .before .before .opening-at .ensures (c .before .if1 .left) .within))
     (λ c κs. search needs)
     (λ c.

@@ -9,7 +9,7 @@ use Rattle.format.specs.NodeLayout.{captureAt}
 use Rattle.format.specs.Parsed.{rowAt}
 use Rattle.tables.specs.Indexed.{IndexOf}
 use Rattle.fields.specs.Views.{nextParsed}
-use Rattle.references.specs.FaultsIn.{captureFaultsIn}
+use Rattle.tables.specs.Faults.{captureFaultsIn}
 use Rattle.references.proofs.CapturesLaws.{captures-none, capture-next}
 use Rattle.references.proofs.JudgingLaws.{Judging, judging-begin, judging-next, judging-refused, judging-end}
 use Rattle.references.proofs.capture_faults.Statement.{statement}

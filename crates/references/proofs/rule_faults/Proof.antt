@@ -7,7 +7,7 @@ use Rattle.format.specs.NodeLayout.{ruleAt}
 use Rattle.format.specs.Parsed.{rowAt}
 use Rattle.tables.specs.Indexed.{IndexOf}
 use Rattle.fields.specs.Views.{nextParsed}
-use Rattle.references.specs.FaultsIn.{ruleFaultsIn}
+use Rattle.tables.specs.Faults.{ruleFaultsIn}
 use Rattle.references.proofs.JudgingLaws.{Judging, judging-begin, judging-next, judging-refused, judging-end}
 use Rattle.references.proofs.rule_faults.Statement.{statement}
 use Rattle.references.proofs.rule_faults.Tie as tie

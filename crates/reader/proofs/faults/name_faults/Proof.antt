@@ -1,29 +1,34 @@
-use Prim.Native.Nat.{ℕ}
-use mathlib.Core.Path.{_≡_, ap}
+use mathlib.Core.Path.{refl}
 use native.Mathlib.Omega.{arith}
 use borrow.Author.Needs.{needs}
 use Rattle.limits.specs.Limits.{limitsOf}
 use Rattle.format.specs.Lookup.{nodeEntries}
-use Rattle.fields.specs.Views.{nextParsed}
-use Rattle.reader.proofs.NameLaws.{entries-again, children-of, names-refused, names-roots}
+use Rattle.reader.proofs.NameLaws.{entries-again, children-of, names-roots, no-faults, clean-judged}
 use Rattle.reader.proofs.faults.name_faults.Statement.{statement}
 use Rattle.reader.proofs.faults.name_faults.Tie as tie
 
 returns : tie.Need-returns
 returns c =
-    let f = c .before .before .before .before .before .node-faults .ensures in
-    let e = c .before .enum-told .given .1 in (
-      λ of chip end file roots tables j k. names-roots (limitsOf of) _ (λ i. c .before .before .before .before .before .before .before .before .before .before .before .before .before .before .before .shared-slice-known .given i .fits) _ _ _ _ _ chip end file tables
-          (f .0 j k) (ap nextParsed e) _ (c .root-faults .ensures) roots,
-      λ of chip end next r file tables j k. children-of chip _ _ (tables .nodes-are) (f .1 _ e j k (nodeEntries chip) (entries-again (limitsOf of) _ file) (tables .places-are) (tables .wanted-are)),
-    )
+    let x = c .before .before .exact-faults .ensures in
+    ((λ of chip end file roots tables entries j k. x .0 of chip end file roots tables j k), λ of chip end next r file tables entries j k. record { base = _; sized = refl; children-are = x .1 of chip end next r file tables j k })
 
 returns-2 : tie.Need-returns-2
-returns-2 c = (
-  λ of chip end file roots tables j k. names-refused (limitsOf of) _ (λ i. c .before .before .before .before .before .before .before .before .before .before .before .before .before .before .before .shared-slice-known .given i .fits) _ _ _ _ _ chip end file tables
-      (c .before .before .before .before .before .node-faults .ensures .0 j k) (ap nextParsed (c .before .f .given .1)),
-  λ of chip end next r file tables j k. let z : _≡_ {A = ℕ} 0 1 = cc in absurd (omega arith),
-)
+returns-2 c =
+    let f = c .before .before .before .before .link-children .ensures in
+    let t = c .before .if2 .taken in
+    let i = c .before .before .before .before .before .before .if1 .left in (
+      (λ of chip end file roots tables entries j k.
+          let z = f k t (nodeEntries chip) (entries-again (limitsOf of) _ file) (entries .entries-are (omega (arith, i))) in
+          names-roots (limitsOf of) _ (λ i. c .before .before .before .before .before .before .before .before .before .before .before .before .before .before .before .before .shared-slice-known .given i .fits) _ _ _ _ _ chip end file tables (clean-judged _ (no-faults _ _ _ (nodeEntries chip) (entries .fit (omega (arith, i))) (z .0))) refl _ (c .root-faults .ensures) roots),
+      λ of chip end next r file tables entries j k.
+          let z = f k t (nodeEntries chip) (entries-again (limitsOf of) _ file) (entries .entries-are (omega (arith, i))) in
+          record { base = _; sized = refl; children-are = children-of chip _ _ (tables .nodes-are) (z .1) },
+    )
+
+returns-3 : tie.Need-returns-3
+returns-3 c =
+    let x = c .before .before .exact-faults2 .ensures in
+    ((λ of chip end file roots tables entries j k. x .0 of chip end file roots tables j k), λ of chip end next r file tables entries j k. record { base = _; sized = c .before .before .before .before .before .before .child2 .given; children-are = x .1 of chip end next r file tables j k })
 
 pub name-faults-spec : {M : Type 1} → statement M
 name-faults-spec =
@@ -31,9 +36,11 @@ name-faults-spec =
     (tie.spec
     (λ c κs. search needs)
     (λ c. search needs)
+    returns
+    (λ c κs. search needs)
     (λ c κs. search needs)
     (λ c. search needs)
+    returns-2
+    (λ c κs. search needs)
     (λ c. search needs)
-    returns
-    (λ c. search needs)
-    returns-2)
+    returns-3)

@@ -7,19 +7,26 @@ use Rattle.reader.proofs.file.whole.Statement.{statement}
 use Rattle.reader.proofs.file.whole.Tie as tie
 
 returns : tie.Need-returns
-returns c = (whole-long _ _ (c .before .bytes .ensures) (c .if1 .taken) refl, (λ l ns m e d. no-layout e, λ l rs m e d. no-layout e))
+returns c = (whole-long _ _ (c .before .bytes .ensures) (c .if1 .taken) refl, ((λ l ns m e d. no-layout e), ((λ l rs m e d. no-layout e), λ l e. no-layout e)))
 
 returns-2 : tie.Need-returns-2
-returns-2 c = (whole-more _ _ (c .before .before .before .before .before .before .before .before .before .before .before .before .before .before .before .before .before .before .before .before .before .bytes .ensures) (c .before .before .before .before .before .before .before .before .before .before .before .before .before .before .before .before .before .before .before .before .if1 .left) (sym (ap layoutParsed (c .before .before .read .given .1)) ∙ c .before .before .before .before .before .before .before .before .before .before .before .before .before .before .layout .ensures .0) (c .if2 .taken) refl, (λ l ns m e d. no-layout e, λ l rs m e d. no-layout e))
+returns-2 c =
+    let i = c .before .before .before .before .before .before .before .before .before .before .before .before .before .before .before .before .before .before .before .before .before .before .before .before .before .before in
+    (whole-more _ _ (i .before .bytes .ensures) (i .if1 .left) (sym (ap layoutParsed (c .before .before .read .given .1)) ∙ c .before .before .before .before .before .before .before .before .before .before .before .before .before .before .before .before .before .before .layout .ensures .0) (c .if2 .taken) refl, ((λ l ns m e d. no-layout e), ((λ l rs m e d. no-layout e), λ l e. no-layout e)))
 
 returns-3 : tie.Need-returns-3
-returns-3 c = (
-  whole-done _ _ (c .before .before .before .before .before .before .before .before .before .before .before .before .before .before .before .before .before .before .before .before .before .bytes .ensures) (c .before .before .before .before .before .before .before .before .before .before .before .before .before .before .before .before .before .before .before .before .if1 .left) (sym (ap layoutParsed (c .before .before .read .given .1)) ∙ c .before .before .before .before .before .before .before .before .before .before .before .before .before .before .layout .ensures .0) (c .if2 .left) refl,
-  (λ l ns m e d. c .before .before .before .before .before .before .before .before .before .before .before .before .before .before .layout .ensures .1 .0 l ns m (c .before .before .read .given .1 ∙ e) d, λ l rs m e d. c .before .before .before .before .before .before .before .before .before .before .before .before .before .before .layout .ensures .1 .1 l rs m (c .before .before .read .given .1 ∙ e) d),
-)
+returns-3 c =
+    let i = c .before .before .before .before .before .before .before .before .before .before .before .before .before .before .before .before .before .before .before .before .before .before .before .before .before .before in
+    let r = c .before .before .read .given .1 in
+    let x = c .before .before .before .before .before .before .before .before .before .before .before .before .before .before .before .before .before .before .layout .ensures in (
+      whole-done _ _ (i .before .bytes .ensures) (i .if1 .left) (sym (ap layoutParsed r) ∙ x .0) (c .if2 .left) refl,
+      ((λ l ns m e d. x .1 .0 l ns m (r ∙ e) d), ((λ l rs m e d. x .1 .1 .0 l rs m (r ∙ e) d), λ l e. x .1 .1 .1 l (r ∙ e))),
+    )
 
 returns-4 : tie.Need-returns-4
-returns-4 c = (whole-refused _ _ (c .before .before .before .before .before .before .before .before .before .before .before .before .before .before .before .before .before .before .before .before .bytes .ensures) (c .before .before .before .before .before .before .before .before .before .before .before .before .before .before .before .before .before .before .before .if1 .left) (sym (ap layoutParsed (c .before .read2 .given .1)) ∙ c .before .before .before .before .before .before .before .before .before .before .before .before .before .layout .ensures .0) refl, (λ l ns m e d. no-layout e, λ l rs m e d. no-layout e))
+returns-4 c =
+    let i = c .before .before .before .before .before .before .before .before .before .before .before .before .before .before .before .before .before .before .before .before .before .before .before .before .before in
+    (whole-refused _ _ (i .before .bytes .ensures) (i .if1 .left) (sym (ap layoutParsed (c .before .read2 .given .1)) ∙ c .before .before .before .before .before .before .before .before .before .before .before .before .before .before .before .before .before .layout .ensures .0) refl, ((λ l ns m e d. no-layout e), ((λ l rs m e d. no-layout e), λ l e. no-layout e)))
 
 pub whole-spec : {M : Type 1} → statement M
 whole-spec =
@@ -29,22 +36,28 @@ whole-spec =
     returns
     (λ c κs. search needs)
     (λ c. search needs)
-    (λ c. c .before .before .before .before .before .before .before .before .before .before .before .before .before .keys .given)
-    (λ c. c .before .before .before .before .before .before .before .before .before .before .before .kinds .given)
-    (λ c. c .before .before .before .before .before .before .before .before .before .names .given)
-    (λ c. c .before .before .before .before .before .before .before .wanted .given)
-    (λ c. c .before .before .before .before .before .places .given)
+    (λ c. c .before .before .before .before .before .before .before .before .before .before .before .before .before .before .before .before .before .keys .given)
+    (λ c. c .before .before .before .before .before .before .before .before .before .before .before .before .before .before .before .kinds .given)
+    (λ c. c .before .before .before .before .before .before .before .before .before .before .before .before .before .index .given)
+    (λ c. c .before .before .before .before .before .before .before .before .before .before .before .names .given)
+    (λ c. c .before .before .before .before .before .before .before .before .before .wanted .given)
+    (λ c. c .before .before .before .before .before .before .before .places .given)
+    (λ c. c .before .before .before .before .before .entries .given)
     returns-2
     (λ c. search needs)
-    (λ c. c .before .before .before .before .before .before .before .before .before .before .before .before .before .keys .given)
-    (λ c. c .before .before .before .before .before .before .before .before .before .before .before .kinds .given)
-    (λ c. c .before .before .before .before .before .before .before .before .before .names .given)
-    (λ c. c .before .before .before .before .before .before .before .wanted .given)
-    (λ c. c .before .before .before .before .before .places .given)
+    (λ c. c .before .before .before .before .before .before .before .before .before .before .before .before .before .before .before .before .before .keys .given)
+    (λ c. c .before .before .before .before .before .before .before .before .before .before .before .before .before .before .before .kinds .given)
+    (λ c. c .before .before .before .before .before .before .before .before .before .before .before .before .before .index .given)
+    (λ c. c .before .before .before .before .before .before .before .before .before .before .before .names .given)
+    (λ c. c .before .before .before .before .before .before .before .before .before .wanted .given)
+    (λ c. c .before .before .before .before .before .before .before .places .given)
+    (λ c. c .before .before .before .before .before .entries .given)
     returns-3
-    (λ c. c .before .before .before .before .before .before .before .before .before .before .before .before .keys .given)
-    (λ c. c .before .before .before .before .before .before .before .before .before .before .kinds .given)
-    (λ c. c .before .before .before .before .before .before .before .before .names .given)
-    (λ c. c .before .before .before .before .before .before .wanted .given)
-    (λ c. c .before .before .before .before .places .given)
+    (λ c. c .before .before .before .before .before .before .before .before .before .before .before .before .before .before .before .before .keys .given)
+    (λ c. c .before .before .before .before .before .before .before .before .before .before .before .before .before .before .kinds .given)
+    (λ c. c .before .before .before .before .before .before .before .before .before .before .before .before .index .given)
+    (λ c. c .before .before .before .before .before .before .before .before .before .before .names .given)
+    (λ c. c .before .before .before .before .before .before .before .before .wanted .given)
+    (λ c. c .before .before .before .before .before .before .places .given)
+    (λ c. c .before .before .before .before .entries .given)
     returns-4)
