@@ -1,4 +1,4 @@
--- A loop over registers or nodes while their IDs rise, with the rows of their instances.
+-- A loop over elements while their IDs rise, with the rows of their instances.
 use Prim.Native.Nat.{ℕ, _+_, _-_, _^_, _≤_, _<_}
 use mathlib.Core.Bool.{true}
 use mathlib.Core.List.{List, [], _∷_, map}

@@ -228,7 +228,7 @@ fn section_at(
     }
 }
 
-// The nodes section, with the rows of all node instances from the front of the tables on. It reads the section once, and again from its first node on where an ID falls.
+// The nodes section, with the rows of all node instances from the front of the tables on. It reads each node once.
 pub fn nodes_at(
     s: &[u8],
     at: usize,

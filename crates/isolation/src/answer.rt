@@ -75,7 +75,7 @@ fn settle(
     }
 }
 
-// Refusals 15 to 19, or success, by the tables of an accepted file. `active` and `unread` take what its rules give.
+// Refusals 15 to 19, or success, by the tables of an accepted file. `active` and `unread` take what its rules give, and `unread` then the words of the listed bits.
 fn by_tables(
     file: &[u8],
     roots_at: usize,

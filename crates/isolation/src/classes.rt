@@ -25,7 +25,7 @@ ghost use Rattle.reader.specs.Examined.{lengthsOf, roomFor};
 ghost use Rattle.isolation.specs.Outcome.{outcomeOf, refusedOutcome, isolate};
 ghost use Rattle.isolation.specs.Ready.{roomIn};
 
-// Isolation in lent tables. Where one of them is too short for the file, 43 at 0, and the list keeps its bytes; `unread` is to be as long as `names`. What the other tables then hold is free.
+// Isolation in lent tables. Where one of them is too short for the file, 43 at 0, and the list keeps its bytes; `unread` is to be as long as `names`, and serves the checker for the child entries first. What the other tables then hold is free.
 fn isolate_in(
     file: &[u8],
     attention: u8,

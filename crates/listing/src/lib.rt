@@ -197,7 +197,7 @@ fn put_rows(
     place
 }
 
-// The records of all done instances, where there is room for all of them; otherwise the list keeps its bytes. `listed` takes the word of each instance's listed bits, so that the records are written without a second look at the children; it may have any length.
+// The records of all done instances, where there is room for all of them; otherwise the list keeps its bytes. `listed` takes the word of each instance's listed bits, so that the records of an instance that it has a place for are written without a second look at its children; it may have any length, and what it then holds is free.
 pub fn write_list(
     list: &mut [u8],
     attention: u8,

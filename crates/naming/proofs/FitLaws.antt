@@ -1,7 +1,7 @@
 -- An expression whose names all fit: its head names nothing or what fits, and its operands fit, one after another.
 use Prim.Native.Nat.{ℕ, _+_, _-_, _*_, _/_, _%_, _≤_, _<_}
 use mathlib.Core.Path.{_≡_, refl, sym, _∙_}
-use mathlib.Core.Bool.{true, false}
+use mathlib.Core.Bool.{true}
 use mathlib.Core.List.{List, []}
 use native.Mathlib.Omega.{arith}
 use borrow.Author.Tests.{lt-ltb, eq-eqb, eqb-true}
@@ -45,10 +45,6 @@ key-behind s at =
 pub key-found : (keys kinds : List ℕ) (kind x : ℕ) {k t : ℕ} → k ≡ position (λ y. eqb y x) keys → k < length keys → t ≡ getD kinds k 0
     → eqb t kind ≡ true → KeyFits keys kinds kind x
 key-found keys kinds kind x e h g i = record { there = rw (← e) h; fits = rw (← e) (sym g ∙ eqb-true _ _ i) }
-
--- Nothing is said where it does not fit.
-pub key-missed : {A : Type 0} → false ≡ true → A
-key-missed e = let z : _≡_ {A = ℕ} 0 1 = cc in absurd (omega arith)
 
 -- The name of a reading that is there and has the kind is no fault.
 own-fits : (s keys kinds : List ℕ) (kind at next : ℕ) → KeyFits keys kinds kind (keyOf (idIn s at) (getD s (at + 4) 0))

@@ -12,7 +12,7 @@ use Rattle.format.specs.NodeLayout.{InstanceHead, captureAt, ruleAt, childAt, i
 use Rattle.format.specs.Parsed.{Parsed, done, requiring, rowAt}
 use Rattle.format.specs.Tree.{Child, NodeInstance}
 use Rattle.format.proofs.GatheredLaws.{gathered-each}
-use Rattle.format.proofs.ParsedLaws.{then-in, then-out, making-in, making-out, requiring-in}
+use Rattle.format.proofs.ParsedLaws.{then-in, making-in, requiring-in}
 use Rattle.fields.specs.Seen.{Below}
 use Rattle.fields.proofs.FieldLaws.{byte-field}
 use Rattle.fields.proofs.Parsing.{row-length}
@@ -22,30 +22,24 @@ use Rattle.tables.specs.Tables.{keyOf, written}
 use Rattle.nodes.specs.Nodes.{nodeNumber, ChildrenRead}
 use Rattle.index.specs.Rows.{Row, Rows, putRow, filled, rowOf, firstPlace, childrenOf}
 use Rattle.index.proofs.FillingLaws.{row-first}
+use Rattle.index.proofs.PartsLaws.{child-fields}
 use Rattle.node_pass.specs.declared.Pass.{Pass}
 use Rattle.node_pass.specs.declared.InstancePass.{InstancePass}
-use Rattle.node_pass.specs.Passed.{kept, NamesPassed, InstancePassed, InstancesPassed}
+use Rattle.node_pass.specs.Passed.{packed, NamesPassed, InstancePassed, InstancesPassed}
 use Rattle.node_pass.proofs.PassingLaws.{Passing, passing-begin, passing-next, passing-end}
 
--- The first of some children that are read stands where they are read.
-child-placed : (s : List ℕ) (before : List Child) (at : ℕ) {k : Child} {m : ℕ} → childAt s true before at ≡ done k m → k .place ≡ at
-unfolding childAt
-child-placed s before at e =
-    let t = then-out _ _ e in
-    let u = then-out _ _ (t .3) in
-    sym (ap (λ x. x .place) (making-out _ _ (u .3) .2))
-
-pub kept-children : (s : List ℕ) (n at : ℕ) {ks : List Child} {m : ℕ} → rowAt (childAt s true) n [] at ≡ done ks m → kept at n ≡ firstPlace ks * 256 + length ks
-unfolding kept firstPlace
-kept-children s zero at {ks} e = go ks (row-length (childAt s true) 0 [] at e)
+-- What is kept of children that are read: the first stands where they are read.
+pub packed-children : (s : List ℕ) (n at : ℕ) {ks : List Child} {m : ℕ} → rowAt (childAt s true) n [] at ≡ done ks m → packed at n ≡ firstPlace ks * 256 + length ks
+unfolding packed firstPlace
+packed-children s zero at {ks} e = go ks (row-length (childAt s true) 0 [] at e)
   where
     go : (ks : List Child) → length ks ≡ 0 → 0 ≡ firstPlace ks * 256 + length ks
     go [] h = refl
     go (k ∷ ks) h = absurd (omega arith)
-kept-children s (suc n) at {ks} e =
+packed-children s (suc n) at {ks} e =
     let f = row-first (childAt s true) (suc n) [] at (omega arith) e in
     let h : length ks ≡ suc n = row-length (childAt s true) (suc n) [] at e in
-    let p : firstPlace ks ≡ at = ap firstPlace (sym (f .5)) ∙ child-placed s [] at (f .3) in
+    let p : firstPlace ks ≡ at = ap firstPlace (sym (f .5)) ∙ sym (child-fields s at [] (f .3) .1) in
     rw (p, h)
 
 module _ (limit : ℕ) (s : List ℕ) (begun : ℕ) (numbers : List ℕ) (at : ℕ) where
@@ -67,7 +61,7 @@ module _ (limit : ℕ) (s : List ℕ) (begun : ℕ) (numbers : List ℕ) (at : �
 -- A node instance that is read in the pass.
 pub instance-passed : (s keys kinds : List ℕ) (kind bound at : ℕ) {p : Pass} {r : InstancePass} {captures rules n : ℕ} → bound ≤ getD s at 0 → (rules ≡ 0 → ⊥)
     → getD s (at + 1) 0 ≡ captures → getD s (at + 2) 0 ≡ rules → getD s (at + 3) 0 ≡ n
-    → NamesPassed s keys kinds kind captures rules (at + 4) p → ChildrenRead s n (p .next) (r .next) → r .number ≡ getD s at 0 → r .children ≡ kept (p .next) n → r .fits ≡ p .fits
+    → NamesPassed s keys kinds kind captures rules (at + 4) p → ChildrenRead s n (p .next) (r .next) → r .number ≡ getD s at 0 → r .children ≡ packed (p .next) n → r .fits ≡ p .fits
     → at + 4 ≤ length s → InstancePassed s keys kinds kind bound at r
 unfolding nodeInstanceAt childrenOf registerNamesIn
 instance-passed s keys kinds kind bound at {p} {r} {captures} {rules} {n} f z ec er en names children number kids fits h =
@@ -83,20 +77,20 @@ instance-passed s keys kinds kind bound at {p} {r} {captures} {rules} {n} f z ec
           (then-in _ _ rc (then-in _ _ rr (making-in _ _ rk refl)));
       numbered = number;
       placed = refl;
-      children-are = kids ∙ kept-children s n (p .next) (children .read);
+      children-are = kids ∙ packed-children s n (p .next) (children .read);
       fit = λ e. let q = names .fit (sym fits ∙ e) in rw (q .0, q .1);
     }
 
 -- What is kept of children, by whether there is one.
-pub kept-none : (at n : ℕ) → n ≡ 0 → 0 ≡ kept at n
-unfolding kept
-kept-none at zero e = refl
-kept-none at (suc n) e = absurd (omega arith)
+pub packed-none : (at n : ℕ) → n ≡ 0 → 0 ≡ packed at n
+unfolding packed
+packed-none at zero e = refl
+packed-none at (suc n) e = absurd (omega arith)
 
-pub kept-some : (at n : ℕ) → (n ≡ 0 → ⊥) → at * 256 + n ≡ kept at n
-unfolding kept
-kept-some at zero e = absurd (e refl)
-kept-some at (suc n) e = refl
+pub packed-some : (at n : ℕ) → (n ≡ 0 → ⊥) → at * 256 + n ≡ packed at n
+unfolding packed
+packed-some at zero e = absurd (e refl)
+packed-some at (suc n) e = refl
 
 -- A loop over the instances of a node: the numbers of those before are below `bound`.
 module _ (limit : ℕ) (s keys kinds : List ℕ) (id kind count total at : ℕ) (t₀ : Rows) (c₀ : List ℕ) where

@@ -2,14 +2,14 @@
 use Prim.Native.Nat.{ℕ}
 use mathlib.Core.Bool.{true, false}
 use mathlib.Core.List.{List, []}
-use mathlib.Core.Path.{_≡_, sym, _∙_, ap}
+use mathlib.Core.Path.{_≡_, sym, _∙_, ap, refl}
+use Rattle.numbers.proofs.Bools.{clash}
 use Rattle.format.specs.NodeLayout.{captureAt, ruleAt, childAt}
 use Rattle.format.specs.Parsed.{done, rowAt}
 use Rattle.fields.specs.Views.{forget}
 use Rattle.fields.proofs.Parsing.{found}
 use Rattle.nodes.specs.Nodes.{ChildrenRead}
 use Rattle.naming.specs.Fits.{CapturesFit, RulesFit}
-use Rattle.naming.proofs.FitLaws.{key-missed}
 use Rattle.index.proofs.Again.{same-done}
 use Rattle.node_pass.specs.declared.Pass.{Pass}
 use Rattle.node_pass.specs.Passed.{NamesPassed}
@@ -40,7 +40,7 @@ module _ (s keys kinds : List ℕ) (kind captures rules at : ℕ) {p : Pass} {a 
         ruled = g .value;
         read-captures = f .is;
         read-rules = g .is ∙ ap (done (g .value)) n;
-        fit = λ z. key-missed (sym w ∙ z);
+        fit = λ z. clash (sym w ∙ z) refl;
       }
 
 pub children-read : (s : List ℕ) (n at : ℕ) {end : ℕ} → done tt end ≡ forget (rowAt (childAt s true) n [] at) → ChildrenRead s n at end

@@ -4,18 +4,17 @@ use mathlib.Core.Bool.{Bool, true, false, not, _&&_}
 use mathlib.Core.List.{List, map}
 use mathlib.Core.Path.{_≡_, refl, sym, _∙_, subst}
 use native.Mathlib.Omega.{arith}
-use borrow.Author.Tests.{leb-true, ltb-true, le-leb, lt-leb, lt-ltb}
+use borrow.Author.Tests.{leb-true, ltb-true, le-leb, lt-leb, lt-ltb, not-true, not-false}
 use lib.Dec.{leb, ltb}
 use lib.ListN.{length, take}
 use lib.Seq.{length-take-le}
-use Rattle.numbers.proofs.Bools.{and-left, and-right, and-both}
+use Rattle.numbers.proofs.Bools.{and-left, and-right, and-both, clash}
 use Rattle.format.specs.Lookup.{gathered, nodeEntriesOf}
 use Rattle.format.specs.NodeLayout.{nodesAt}
 use Rattle.format.specs.Parsed.{Parsed, done, making}
 use Rattle.format.specs.Tree.{Node}
 use Rattle.format.proofs.ParsedLaws.{making-in}
 use Rattle.fields.specs.Views.{Section}
-use Rattle.naming.proofs.FitLaws.{key-missed}
 use Rattle.nodes.specs.Nodes.{nodeSection}
 use Rattle.index.specs.Rows.{Rows, filled, nodeRow}
 use Rattle.index.proofs.Again.{same-done}
@@ -31,14 +30,6 @@ pub record Holds (m keys kinds : ℕ) : Type 0 where
   pub kinds-in : m ≤ kinds
   pub few : m < 65536
 
-not-false : (b : Bool) → not b ≡ false → b ≡ true
-not-false true e = refl
-not-false false e = sym e
-
-not-true : (b : Bool) → not b ≡ true → b ≡ false
-not-true true e = sym e
-not-true false e = refl
-
 pub holds : (m keys kinds : ℕ) {b : Bool} → b ≡ leb m keys && (leb m kinds && ltb m 65536) → not b ≡ false → Holds m keys kinds
 holds m keys kinds e t =
     let a = sym e ∙ not-false _ t in
@@ -46,7 +37,7 @@ holds m keys kinds e t =
     record { keys-in = leb-true _ _ (and-left (leb m keys) _ a); kinds-in = leb-true _ _ (and-left (leb m kinds) _ b); few = ltb-true _ _ (and-right (leb m kinds) _ b) }
 
 pub holds-not : {A : Type 0} (m keys kinds : ℕ) {b : Bool} → b ≡ leb m keys && (leb m kinds && ltb m 65536) → not b ≡ true → m < 65536 → m ≤ keys → m ≤ kinds → A
-holds-not m keys kinds e t f k l = key-missed (sym (not-true _ t) ∙ e ∙ and-both (le-leb m keys k) (and-both (le-leb m kinds l) (lt-ltb m 65536 f)))
+holds-not m keys kinds e t f k l = clash (sym (not-true _ t) ∙ e ∙ and-both (le-leb m keys k) (and-both (le-leb m kinds l) (lt-ltb m 65536 f))) refl
 
 pub no-keys : (m keys kinds : ℕ) → keys < m → false ≡ leb m keys && (leb m kinds && ltb m 65536)
 no-keys m keys kinds h = rw (lt-leb m keys h)
@@ -69,7 +60,7 @@ pub kept-exact : (m : ℕ) (keys kinds : List ℕ) (t : Rows) (c : List ℕ) (b 
     → length (b .keys) ≡ length (t .keys) → length (b .kinds) ≡ length (t .kinds) → length (b .places) ≡ length (t .places)
     → (fits ≡ false) × (u ≡ filled b 0 (map nodeRow (gathered nodeEntriesOf ns))) → NodesKept m keys kinds t c u d fits ns
 kept-exact m keys kinds t c b ns k i p e =
-    record { base = b; keys-sized = k; kinds-sized = i; places-sized = p; rows = e .1; names = λ f. key-missed (sym (e .0) ∙ f) }
+    record { base = b; keys-sized = k; kinds-sized = i; places-sized = p; rows = e .1; names = λ f. clash (sym (e .0) ∙ f) refl }
 
 module _ (limit : ℕ) (s : List ℕ) (at m : ℕ) (keys kinds : List ℕ) (t : Rows) (c : List ℕ) {u : Rows} {d : List ℕ} {p : SectionPass} (q : SectionPassed limit s (take m keys) (take m kinds) at t c u d p) where
   -- By the pass.

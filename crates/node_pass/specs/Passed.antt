@@ -22,9 +22,9 @@ use Rattle.node_pass.specs.declared.NodesPass.{NodesPass}
 use Rattle.node_pass.specs.declared.SectionPass.{SectionPass}
 
 -- What is kept of so many children, the first of which stands at a place.
-unfoldable pub kept : ℕ → ℕ → ℕ
-kept at zero = 0
-kept at (suc n) = at * 256 + suc n
+unfoldable pub packed : ℕ → ℕ → ℕ
+packed at zero = 0
+packed at (suc n) = at * 256 + suc n
 
 -- What is wrong with the registers that a node instance of the file names.
 unfoldable pub entryNamesIn : List ℕ → List ℕ → NodeEntry → List Fault

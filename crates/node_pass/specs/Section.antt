@@ -1,4 +1,4 @@
--- The nodes section as it is kept: the rows of its node instances; and where every register fits that captures and rules name, the place and the number of the children of each.
+-- The nodes section as it is kept: the rows of its node instances; and where the answer says that every register fits that captures and rules name, the place and the number of the children of each.
 use Prim.Native.Nat.{ℕ, _≤_, _<_}
 use mathlib.Core.Bool.{Bool, true}
 use mathlib.Core.List.{List, [], map}

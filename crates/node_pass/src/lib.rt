@@ -6,7 +6,7 @@ use naming::captures_fit;
 use naming::rules_fit;
 use nodes::captures_at;
 use nodes::children_at;
-use nodes::children_fit;
+use nodes::rising_children;
 use nodes::rules_at;
 use tables::key;
 use tables::put;
@@ -16,7 +16,7 @@ ghost use mathlib.Core.Path.{_≡_};
 ghost use lib.ListN.{length};
 ghost use Rattle.tables.specs.Indexed.{IndexOf};
 ghost use Rattle.nodes.specs.Nodes.{ChildrenRead};
-ghost use Rattle.node_pass.specs.Passed.{kept, NamesPassed, InstancePassed, InstancesPassed, HeadPassed, NodesPassed};
+ghost use Rattle.node_pass.specs.Passed.{packed, NamesPassed, InstancePassed, InstancesPassed, HeadPassed, NodesPassed};
 
 mod one_pass;
 pub mod section;
@@ -52,7 +52,7 @@ pub struct NodesPass {
     pub falls: bool,
 }
 
-// The nodes section: how many nodes and instances it has, the place after it, and whether every register fits that it names. The place is 0 where it is not read in this pass.
+// The nodes section: how many nodes and instances it has, the place after it, and whether every register was found to fit that it names. The place is 0 where a pass does not read it.
 pub struct SectionPass {
     pub nodes: usize,
     pub total: usize,
@@ -70,7 +70,7 @@ fn both(a: bool, b: bool) -> bool
     false
 }
 
-// The captures and rules of a node instance. Where a register does not fit they are read once more, for the place after them.
+// The captures and rules of a node instance. Where a register does not fit the rules are read for the place after them: once more where it is one that a rule names.
 fn names_pass(
     s: &[u8],
     at: usize,
@@ -117,7 +117,7 @@ fn names_pass(
 fn children_pass(s: &[u8], at: usize, n: u8) -> usize
     ensures { λ r. ⌜ ((r ≡ 0 → ⊥) → ChildrenRead (now (s .entry)) n at r) ⌝ }
 {
-    let end = children_fit(s, at, n);
+    let end = rising_children(s, at, n);
     if end != 0 {
         return end;
     }
@@ -129,9 +129,9 @@ fn children_pass(s: &[u8], at: usize, n: u8) -> usize
 }
 
 // What is kept of so many children, the first of which stands at a place.
-fn kept(at: usize, n: u8) -> u64
+fn packed(at: usize, n: u8) -> u64
     requires { ⌜ at ≤ 0x100000000 ⌝ }
-    ensures { λ r. ⌜ r ≡ kept at n ⌝ }
+    ensures { λ r. ⌜ r ≡ packed at n ⌝ }
 {
     if n == 0 {
         return 0;
@@ -185,7 +185,7 @@ fn instance_pass(
     let end = children_pass(s, middle, n);
     InstancePass {
         number,
-        children: kept(middle, n),
+        children: packed(middle, n),
         next: end,
         fits: p.fits,
     }

@@ -70,7 +70,7 @@ fn exact_at(
 }
 
 // The nodes section, with the rows of its node instances from the front of the tables on. The first m of `keys` and `kinds` are those of the register instances; where the tables hold them, an
-// index over these keys is in `index`. Where every register fits that captures and rules name, what is kept of the children of each node instance is in `entries`.
+// index over these keys is in `index` (m below 65,536). Where the answer says that every register fits that captures and rules name, what is kept of the children of each node instance is in `entries`.
 pub fn nodes_at(
     s: &[u8],
     at: usize,

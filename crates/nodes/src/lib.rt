@@ -221,7 +221,7 @@ pub fn children_at(s: &[u8], at: usize, n: u8) -> NextRead
 }
 
 // The place after so many children at a place, where they are there and their bits rise and are below 64; otherwise 0. It looks at each bit once.
-pub fn children_fit(s: &[u8], at: usize, n: u8) -> usize
+pub fn rising_children(s: &[u8], at: usize, n: u8) -> usize
     ensures { λ r. ⌜ ((r ≡ 0 → ⊥) → ChildrenRead (now (s .entry)) n at r) ⌝ }
 {
     if s.len() < at {

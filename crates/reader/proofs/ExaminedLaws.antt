@@ -1,6 +1,6 @@
 -- A file in lent tables: room, the answer, and what the tables hold.
 use Prim.Native.Nat.{ℕ, _*_, _/_, _≤_, _<_}
-use mathlib.Core.Bool.{Bool, true, false, cond}
+use mathlib.Core.Bool.{Bool, true, false, cond, _&&_}
 use mathlib.Core.List.{List, map}
 use mathlib.Core.Logic.{_⊎_, inl, inr}
 use mathlib.Core.Path.{_≡_, refl, sym, _∙_, ap, subst}
@@ -191,10 +191,30 @@ laid-entries of {l = l} {c = c} z {d = d} f =
       fit = λ g. f .names g .fit;
     }
 
+-- How many of them serve.
+module _ (fits : Bool) (n entries : ℕ) where
+  pub usable-all : fits ≡ true → n ≤ entries → n ≡ cond (fits && leb n entries) n 0
+  usable-all f h = rw (f, le-leb n entries h)
+
+  pub usable-short : fits ≡ true → entries < n → 0 ≡ cond (fits && leb n entries) n 0
+  usable-short f h = rw (f, lt-leb n entries h)
+
+  pub usable-none : fits ≡ false → 0 ≡ cond (fits && leb n entries) n 0
+  usable-none f = rw f
+
+  pub usable-out : {k : ℕ} → k ≡ cond (fits && leb n entries) n 0 → (k ≤ entries) × (0 < k → (fits ≡ true) × (k ≡ n))
+  usable-out {k} e = go fits (leb n entries) refl e
+    where
+      go : (f b : Bool) → leb n entries ≡ b → k ≡ cond (f && b) n 0 → (k ≤ entries) × (0 < k → (f ≡ true) × (k ≡ n))
+      go true true h e = let l : n ≤ entries = leb-true n entries h in (omega (arith, e), λ p. (refl, e))
+      go true false h e = (omega (arith, e), λ p. absurd (omega (arith, e)))
+      go false b h e = (omega (arith, e), λ p. absurd (omega (arith, e)))
+
 -- The part of them that is handed on.
-pub entries-part : (c : Chip) (l : Layout) (keys kinds entries : List ℕ) → EntriesIn c l keys kinds entries → (k : ℕ) → (k ≤ length entries) × (0 < k → (l .fits ≡ true) × (k ≡ l .«node_instances»))
+pub entries-part : (c : Chip) (l : Layout) (keys kinds entries : List ℕ) → EntriesIn c l keys kinds entries → (k : ℕ) → k ≡ cond (l .fits && leb (l .«node_instances») (length entries)) (l .«node_instances») 0
     → EntriesOf c (take (l .«register_instances») keys) (take (l .«register_instances») kinds) (take k entries)
-entries-part c l keys kinds entries x k h =
+entries-part c l keys kinds entries x k u =
+    let h = usable-out (l .fits) (l .«node_instances») (length entries) u in
     let w : length (take k entries) ≡ k = length-take-le k entries (h .0) in
     record {
       entries-are = λ p.

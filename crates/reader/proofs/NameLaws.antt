@@ -1,26 +1,27 @@
 -- The faults that the tables show are those of the file.
 use Prim.Native.Nat.{ℕ, _≤_, _<_}
 use mathlib.Core.Bool.{true}
-use mathlib.Core.List.{List, [], _∷_, _++_, map}
+use mathlib.Core.List.{List, [], _∷_, map}
 use mathlib.Core.Path.{_≡_, refl, sym, _∙_, ap, subst}
 use native.Mathlib.Omega.{arith}
 use lib.ListN.{length, length-map}
-use Rattle.limits.proofs.LimitsLaws.{registers-within, nodes-within}
+use Rattle.limits.proofs.LimitsLaws.{nodes-within}
 use Rattle.limits.specs.Limits.{Limits, libraryLimits, limitsOf}
 use Rattle.limits.specs.declared.LimitSet.{LimitSet}
 use Rattle.numbers.specs.BigEndian.{Bytes}
 use Rattle.format.specs.FileLayout.{rootsAt, fileAt}
-use Rattle.format.specs.Lookup.{gathered, registerEntries, NodeEntry, nodeEntries}
+use Rattle.format.specs.Lookup.{gathered, NodeEntry, nodeEntries}
 use Rattle.format.specs.Parsed.{Parsed, done, refused}
 use Rattle.format.specs.References.{Fault, instanceFaults, rootFaults, referenceFaults}
 use Rattle.format.specs.Rules.{Every}
 use Rattle.format.specs.Tree.{Root, Chip}
+use Rattle.format.proofs.FaultsLaws.{append-none}
 use Rattle.format.proofs.FileAccepted.{file-out}
 use Rattle.format.proofs.Grouping.{LayoutMeets, layout-out}
 use Rattle.format.proofs.GatheredLaws.{gathered-same}
 use Rattle.format.proofs.ParsedLaws.{then-out, making-out}
 use Rattle.tables.specs.Faults.{judgedAt, captureFaultsIn, registerNamesIn}
-use Rattle.tables.specs.Keys.{registerKeys, nodeKeys}
+use Rattle.tables.specs.Keys.{nodeKeys}
 use Rattle.tables.specs.Tables.{written}
 use Rattle.tables.proofs.FaultsLaws.{judged-stop, judged-on}
 use Rattle.index.specs.Rows.{ReadAgain, entryPlace}
@@ -41,9 +42,6 @@ names-few : {E : Type 0} (f : E → ℕ) (es : List E) (keys : List ℕ) → key
 names-few f es keys e h = let l : length keys ≡ length es = ap length e ∙ length-map es f in omega arith
 
 module _ (of : LimitSet) (s : List ℕ) (bytes : Bytes s) {c : Chip} {end : ℕ} (file : fileAt (limitsOf of) s true 0 ≡ done c end) where
-  pub few-registers : (keys : List ℕ) → keys ≡ registerKeys c → length keys < 65536
-  few-registers keys e = names-few _ (registerEntries c) keys e (omega (arith, layout-meets (limitsOf of) s bytes file .within .registers, registers-within of))
-
   pub few-nodes : (keys : List ℕ) → keys ≡ nodeKeys c → length keys < 65536
   few-nodes keys e = names-few _ (nodeEntries c) keys e (omega (arith, layout-meets (limitsOf of) s bytes file .within .nodes, nodes-within of))
 
@@ -64,18 +62,14 @@ pub children-of : (c : Chip) (nodes table : List ℕ) → nodes ≡ nodeKeys c �
 children-of c nodes table e {t} d = subst (λ n. t ≡ written table 0 (gathered (λ e. childRow n (e .instance)) (nodeEntries c))) e d
 
 -- Where every register fits and every child is there, no node instance has a fault.
-no-more : {A : Type 0} (xs ys : List A) → xs ++ ys ≡ [] → (xs ≡ []) × (ys ≡ [])
-no-more [] ys e = (refl, e)
-no-more (x ∷ xs) ys e = let z : _≡_ {A = ℕ} 0 1 = cc in absurd (omega arith)
-
 pub no-faults : (keys kinds nodes : List ℕ) (es : List NodeEntry) → gathered (entryNamesIn keys kinds) es ≡ [] → gathered (λ e. gathered (childFaultsIn nodes) (e .instance .children)) es ≡ []
     → gathered (entryFaultsIn keys kinds nodes) es ≡ []
 unfolding gathered entryNamesIn registerNamesIn entryFaultsIn instanceFaultsIn
 no-faults keys kinds nodes [] a b = refl
 no-faults keys kinds nodes (e ∷ es) a b =
-    let p = no-more (entryNamesIn keys kinds e) _ a in
-    let q = no-more (gathered (captureFaultsIn keys kinds) (e .instance .captures)) _ (p .0) in
-    let r = no-more (gathered (childFaultsIn nodes) (e .instance .children)) _ b in
+    let p = append-none (entryNamesIn keys kinds e) _ a in
+    let q = append-none (gathered (captureFaultsIn keys kinds) (e .instance .captures)) _ (p .0) in
+    let r = append-none (gathered (childFaultsIn nodes) (e .instance .children)) _ b in
     rw (q .0, q .1, r .0, no-faults keys kinds nodes es (p .1) (r .1))
 
 pub clean-judged : (fs : List Fault) → fs ≡ [] → done tt 0 ≡ judgedAt fs 0

@@ -18,7 +18,7 @@ use Rattle.reader.specs.declared.Layout.{Layout}
 use Rattle.reader.specs.Columns.{placeColumn, childColumn}
 use Rattle.reader.specs.Layout.{Summary, laidOut, wholeAt}
 
--- The lengths of the lent tables: names and kinds of the register instances; names, kinds and places of the node instances, and their children. The two indexes may have any length.
+-- The lengths of the lent tables: names and kinds of the register instances; names, kinds and places of the node instances, and their children. The two indexes and the column of child entries may have any length.
 pub record Lengths : Type 0 where
   pub keys : ℕ
   pub kinds : ℕ

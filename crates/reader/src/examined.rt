@@ -7,10 +7,11 @@ use fields::NextRead;
 use format::Kind;
 use format::Refusal;
 use limits::LimitSet;
-ghost use Prim.Native.Nat.{ℕ, _*_, _≤_, _<_};
-ghost use mathlib.Core.Bool.{true, cond};
+ghost use Prim.Native.Nat.{ℕ, _*_, _≤_};
+ghost use mathlib.Core.Bool.{true, cond, _&&_};
 ghost use mathlib.Core.List.{_++_};
 ghost use mathlib.Core.Path.{_≡_};
+ghost use lib.Dec.{leb};
 ghost use lib.ListN.{length, take};
 ghost use Rattle.limits.specs.declared.LimitSet.{LimitSet};
 ghost use Rattle.limits.specs.Limits.{limitsOf};
@@ -65,9 +66,9 @@ fn has_room(
     n <= child / 64
 }
 
-// How many entries of a column of so many are those of n node instances: all n where every register fits, otherwise none.
-fn kept(fits: bool, n: usize, entries: usize) -> usize
-    ensures { λ r. ⌜ (r ≤ entries) × (0 < r → (fits ≡ true) × (r ≡ n)) ⌝ }
+// How many of so many entries serve: those of all n node instances where every register fits and there are as many, otherwise none.
+fn usable(fits: bool, n: usize, entries: usize) -> usize
+    ensures { λ r. ⌜ r ≡ cond (fits && leb n entries) n 0 ⌝ }
 {
     if fits {
         if n <= entries {
@@ -111,7 +112,7 @@ fn judge(
 {
     let m = l.register_instances;
     let n = l.node_instances;
-    let k = kept(l.fits, n, entries.len());
+    let k = usable(l.fits, n, entries.len());
     table_faults(
         s,
         l.roots_at,

@@ -29,7 +29,7 @@ ghost use Rattle.reader.specs.declared.Layout.{Layout};
 ghost use Rattle.reader.specs.declared.LayoutRead.{LayoutRead};
 ghost use Rattle.reader.specs.Layout.{layoutParsed, layoutAt, wholeAt};
 
-// The layout of a file that starts at the slice's first byte, with the rows of its register instances and node instances, and an index over the names of the former. It reads each byte of the file at most once, but for a rule with a register that does not fit, for children whose bits do not rise, for the instances of a register whose numbers do not rise, for a section whose IDs do not, and for a nodes section that is refused or in which the instance numbers of a node do not rise.
+// The layout of a file that starts at the slice's first byte, with the rows of its register instances and node instances, and an index over the names of the former. It reads each byte of the file at most once, but for the rules of a node instance that names a register that does not fit, for children whose bits do not rise, for the instances of a register whose numbers do not rise, for a section whose IDs do not, and for a nodes section that is refused or in which the instance numbers of a node do not rise.
 fn layout(
     s: &[u8],
     of: LimitSet,

@@ -53,7 +53,7 @@ fn summary(l: Layout) -> Summary
     }
 }
 
-// The checker: what an accepted file holds, or the refusal that the rules name first. With tables that have room for the file, and IDs and instance numbers that rise, it reads the registers section once, the nodes section twice, for its layout with its rows and for its names and children, and the rules of each root's node instance once more.
+// The checker: what an accepted file holds, or the refusal that the rules name first. With tables that have room for the file, and IDs, instance numbers and child bits that rise, it reads an accepted file once, and its child entries, its roots and the rules of each root's node instance once more.
 pub fn check(file: &[u8]) -> Checked
     ensures { λ r. ⌜ checkedValues r ≡ check libraryLimits (now (file .entry)) ⌝ }
 {

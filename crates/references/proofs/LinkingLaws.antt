@@ -1,6 +1,6 @@
 -- Linking the children of node instances, entry after entry: four bytes each.
 use Prim.Native.Nat.{ℕ, suc, _+_, _*_, _-_, _/_, _%_, _≤_, _<_}
-use mathlib.Core.Bool.{true, false}
+use mathlib.Core.Bool.{true}
 use mathlib.Core.List.{List, [], _∷_, map}
 use mathlib.Core.Path.{_≡_, refl, sym, _∙_, ap, subst}
 use native.Mathlib.Omega.{arith}
@@ -31,10 +31,6 @@ use Rattle.index.proofs.PartsLaws.{naming-all, child-fields, instance-parts}
 use Rattle.links.specs.Links.{childNumber, childrenPut, childless, childRow}
 use Rattle.links.proofs.ChildrenLaws.{childless-length, part-written, part-length, linked-length, link-next, child-row-length}
 use Rattle.references.specs.FaultsIn.{childFaultsIn}
-
--- Nothing is said where a child was not linked.
-pub not-linked : {A : Type 0} → false ≡ true → A
-not-linked e = let z : _≡_ {A = ℕ} 0 1 = cc in absurd (omega arith)
 
 -- What the node instance is kept as that a child entry names.
 abbrev nameIn : List ℕ → ℕ → ℕ

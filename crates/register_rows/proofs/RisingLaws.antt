@@ -9,7 +9,6 @@ use lib.Dec.{eqb}
 use lib.ListN.{length, getD, set, length-map}
 use borrow.Author.Tests.{lt-ltb, eq-eqb, ne-eqb}
 use Rattle.numbers.specs.Field.{field}
-use Rattle.numbers.proofs.FieldLaws.{field-byte}
 use Rattle.format.specs.Fields.{fieldAt, addressSize}
 use Rattle.format.specs.Parsed.{done, making, rowAt}
 use Rattle.format.specs.RegisterLayout.{registerInstanceAt}
@@ -18,7 +17,7 @@ use Rattle.format.proofs.GatheredLaws.{gathered-each}
 use Rattle.format.proofs.ParsedLaws.{then-in, making-in, requiring-in}
 use Rattle.tables.specs.Tables.{keyOf}
 use Rattle.fields.specs.Seen.{Below}
-use Rattle.fields.proofs.FieldLaws.{field-there}
+use Rattle.fields.proofs.FieldLaws.{field-there, byte-field}
 use Rattle.fields.specs.Views.{forget}
 use Rattle.fields.proofs.Parsing.{Found, found, row-length}
 use Rattle.fields.proofs.RowLaws.{Rising, rising-begin, rising-step, rising-last}
@@ -71,7 +70,7 @@ register-instance-is limit s at total type b {n} {next} z =
 -- An instance whose bytes are there, and whose number is not below those before.
 module _ (limit : ℕ) (s : List ℕ) (place kind size : ℕ) (sized : size ≡ suc (addressSize kind)) (there : place + size ≤ length s) where
   number-there : done (getD s place 0) (place + 1) ≡ fieldAt s place 1
-  number-there = sym (field-there s place 1 (omega arith) ∙ ap (λ v. done v (place + 1)) (field-byte s place (omega arith)))
+  number-there = sym (byte-field s place (omega arith))
 
   address-there : done (field s (place + 1) (addressSize kind)) (place + size) ≡ fieldAt s (place + 1) (addressSize kind)
   address-there =

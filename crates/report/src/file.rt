@@ -112,7 +112,7 @@ fn isolate_named(
     )
 }
 
-// Isolation in lent tables. Where one of them is too short for the file, 43 at 0, and the list keeps its bytes; `unread` is to be as long as `names`, and `words` and `read` as `keys`. What the other tables then hold is free.
+// Isolation in lent tables. Where one of them is too short for the file, 43 at 0, and the list keeps its bytes; `unread` is to be as long as `names`, and serves the checker for the child entries first; `words` and `read` are to be as long as `keys`. What the other tables then hold is free.
 fn isolate_in(
     file: &[u8],
     attention: u8,

@@ -4,8 +4,8 @@ use mathlib.Core.Path.{_≡_, refl}
 use lib.ListN.{length}
 use native.Mathlib.Omega.{arith}
 use borrow.Author.Needs.{needs}
+use Rattle.numbers.proofs.Bools.{clash}
 use Rattle.tables.specs.Indexed.{IndexOf}
-use Rattle.naming.proofs.FitLaws.{key-missed}
 use Rattle.naming.proofs.FitRowsLaws.{FittingCaptures, captures-begin, captures-next, captures-end}
 use Rattle.naming.proofs.captures_fit.Statement.{statement}
 use Rattle.naming.proofs.captures_fit.Tie as tie
@@ -51,16 +51,16 @@ captures-fit-spec =
     (tie.spec
     Inv-loop
     μ-loop
-    (λ c. λ i. key-missed)
+    (λ c. λ i e. clash e refl)
     (λ c. search needs)
     (λ c. search needs)
-    (λ c. λ i. key-missed)
+    (λ c. λ i e. clash e refl)
     loop-holds
     key-at-requires
     (λ c κs. search needs)
-    (λ c. λ i. key-missed)
+    (λ c. λ i e. clash e refl)
     (λ c κs. search needs)
-    (λ c. λ i. key-missed)
+    (λ c. λ i e. clash e refl)
     add-place
     (λ c. search needs)
     (λ c. search needs)

@@ -1,5 +1,7 @@
+use mathlib.Core.Path.{refl}
 use borrow.Author.Needs.{needs}
-use Rattle.naming.proofs.FitLaws.{key-found, key-missed}
+use Rattle.numbers.proofs.Bools.{clash}
+use Rattle.naming.proofs.FitLaws.{key-found}
 use Rattle.naming.proofs.key_fits.Statement.{statement}
 use Rattle.naming.proofs.key_fits.Tie as tie
 
@@ -10,4 +12,4 @@ key-fits-spec =
     (λ c κs. search needs)
     (λ c κs. search needs)
     (λ c. λ i. key-found _ _ _ _ (c .before .before .find .ensures i) (c .before .if1 .taken) (c .entry .ensures))
-    (λ c. λ i. key-missed))
+    (λ c. λ i e. clash e refl))

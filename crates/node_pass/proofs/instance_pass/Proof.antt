@@ -15,7 +15,7 @@ returns c =
     let b = n .before .before in
     let a = b .before .before in
     let l = a .before .before in
-    λ i z. instance-passed _ _ _ _ _ _ (a .if3 .left) (b .if4 .left) refl refl refl (n .names-pass .ensures i (d .if5 .left)) (k .children-pass .ensures z) refl (c .kept .ensures) refl
+    λ i z. instance-passed _ _ _ _ _ _ (a .if3 .left) (b .if4 .left) refl refl refl (n .names-pass .ensures i (d .if5 .left)) (k .children-pass .ensures z) refl (c .packed .ensures) refl
     (omega (arith, l .if2 .left, l .before .if1 .left))
 
 pub instance-pass-spec : {M : Type 1} → statement M

@@ -5,8 +5,9 @@ use native.Mathlib.Omega.{arith}
 use borrow.Author.Needs.{needs}
 use borrow.Author.Tests.{not-false}
 use lib.ListN.{length}
+use Rattle.numbers.proofs.Bools.{clash}
 use Rattle.tables.specs.Indexed.{IndexOf}
-use Rattle.references.proofs.LinkingLaws.{not-linked, Linking, linking-begin, linking-next, linking-end}
+use Rattle.references.proofs.LinkingLaws.{Linking, linking-begin, linking-next, linking-end}
 use Rattle.references.proofs.children.link_children.Statement.{statement}
 use Rattle.references.proofs.children.link_children.Tie as tie
 
@@ -24,7 +25,7 @@ same-length : tie.Need-same-length Inv-loop μ-loop
 same-length c = c .before .before .child .given ∙ c .before .before .before .before .before .before .before .loop .inv .0
 
 returns : tie.Need-returns Inv-loop μ-loop
-returns c = λ i e. not-linked e
+returns c = λ i e. clash e refl
 
 add-k : tie.Need-add-k Inv-loop μ-loop
 add-k c = omega (arith, c .before .before .before .link-row .ensures .1 (not-false _ (c .if1 .left)))

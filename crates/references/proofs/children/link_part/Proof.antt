@@ -6,6 +6,7 @@ use mathlib.Core.Path.{_≡_, refl, sym, _∙_, ap}
 use native.Mathlib.Omega.{arith}
 use borrow.Author.Needs.{needs}
 use lib.ListN.{length}
+use Rattle.numbers.proofs.Bools.{clash}
 use Rattle.format.specs.Lookup.{gathered}
 use Rattle.format.specs.NodeLayout.{childAt}
 use Rattle.format.specs.Parsed.{rowAt}
@@ -14,7 +15,7 @@ use Rattle.links.specs.Links.{childrenPut}
 use Rattle.links.proofs.ChildrenLaws.{linked-none}
 use Rattle.links.proofs.RowLaws.{Going, going-begin, going-next, going-end}
 use Rattle.references.specs.FaultsIn.{childFaultsIn}
-use Rattle.references.proofs.LinkingLaws.{not-linked, faultless-next, linked-next, faultless-none}
+use Rattle.references.proofs.LinkingLaws.{faultless-next, linked-next, faultless-none}
 use Rattle.references.proofs.children.link_part.Statement.{statement}
 use Rattle.references.proofs.children.link_part.Tie as tie
 
@@ -29,10 +30,10 @@ abbrev μ-loop : tie.MeasureT-loop
 μ-loop s at n index nodes row₀ left₀ place₀ row left place = left
 
 returns : tie.Need-returns Inv-loop μ-loop
-returns c = λ i e. not-linked e
+returns c = λ i e. clash e refl
 
 returns-2 : tie.Need-returns-2 Inv-loop μ-loop
-returns-2 c = λ i e. not-linked e
+returns-2 c = λ i e. clash e refl
 
 loop-holds : tie.Need-loop-holds Inv-loop μ-loop
 loop-holds c = (omega arith, refl, λ i. going-begin _ _ _ _, λ i. going-begin _ _ _ _)
@@ -47,7 +48,7 @@ same-length : tie.Need-same-length Inv-loop μ-loop
 same-length c = let a = c .before .before .before in a .loop .inv .1 ∙ a .before .before .row .given
 
 returns-3 : tie.Need-returns-3 Inv-loop μ-loop
-returns-3 c = λ i e. not-linked e
+returns-3 c = λ i e. clash e refl
 
 name-at-requires : tie.Need-name-at-requires Inv-loop μ-loop
 name-at-requires c κs = omega (arith, c .before .before .before .loop .inv .0, c .before .before .loop-test .taken)
@@ -56,7 +57,7 @@ same-length-2 : tie.Need-same-length-2 Inv-loop μ-loop
 same-length-2 c = let a = c .before .before .before .before .before .before in a .loop .inv .1 ∙ a .before .before .row .given
 
 returns-4 : tie.Need-returns-4 Inv-loop μ-loop
-returns-4 c = λ i e. not-linked e
+returns-4 c = λ i e. clash e refl
 
 mul-row : tie.Need-mul-row Inv-loop μ-loop
 mul-row c = omega (arith, c .before .before .before .before .shared-slice-known4 .given (c .before .before .before .before .before .before .loop .place))

@@ -1,16 +1,17 @@
 use Prim.Native.Nat.{_+_, _-_}
-use mathlib.Core.Path.{_≡_}
+use mathlib.Core.Path.{_≡_, refl}
 use native.Mathlib.Omega.{arith}
 use borrow.Author.Needs.{needs}
-use Rattle.references.proofs.LinkingLaws.{not-linked, row-linked}
+use Rattle.numbers.proofs.Bools.{clash}
+use Rattle.references.proofs.LinkingLaws.{row-linked}
 use Rattle.references.proofs.children.link_row.Statement.{statement}
 use Rattle.references.proofs.children.link_row.Tie as tie
 
 returns : tie.Need-returns
-returns c = (λ i e. not-linked e, λ e. not-linked e)
+returns c = (λ i e. clash e refl, λ e. clash e refl)
 
 returns-2 : tie.Need-returns-2
-returns-2 c = (λ i e. not-linked e, λ e. not-linked e)
+returns-2 c = (λ i e. clash e refl, λ e. clash e refl)
 
 returns-3 : tie.Need-returns-3
 returns-3 c =

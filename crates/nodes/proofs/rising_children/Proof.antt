@@ -3,8 +3,8 @@ use native.Mathlib.Omega.{arith}
 use borrow.Author.Needs.{needs}
 use Rattle.expressions.proofs.OpeningLaws.{unsaid}
 use Rattle.nodes.proofs.NodeLaws.{RisingChildren, rising-first, rising-child, rising-all}
-use Rattle.nodes.proofs.children_fit.Statement.{statement}
-use Rattle.nodes.proofs.children_fit.Tie as tie
+use Rattle.nodes.proofs.rising_children.Statement.{statement}
+use Rattle.nodes.proofs.rising_children.Tie as tie
 
 abbrev Inv-loop : tie.InvT-loop
 Inv-loop s at n bound₀ left₀ place₀ bound left place = RisingChildren s n at bound left place
@@ -31,8 +31,8 @@ loop-again c =
 returns-5 : tie.Need-returns-5 Inv-loop μ-loop
 returns-5 c = λ _. rising-all (c .before .loop .inv) (c .loop-test .left)
 
-pub children-fit-spec : {M : Type 1} → statement M
-children-fit-spec =
+pub rising-children-spec : {M : Type 1} → statement M
+rising-children-spec =
     tie.close
     (tie.spec
     Inv-loop
