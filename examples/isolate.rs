@@ -2,31 +2,41 @@
 //! file, a readings file and an attention type (a number from 0 to 255). Exit
 //! status: 0 an answer, 1 a refusal, 2 bad usage or no output.
 //!
+//! isolate CHIP READINGS CHIP READINGS .. TYPE: the same for a board of 2 to 16
+//! slots, by the library's limits, with the slot in each line of a listed bit and
+//! of a refusal.
+//!
 //! A file that cannot be read counts as empty, as it does for the station.
 //! Standard library only:
 //!
 //!     rustc -O examples/isolate.rs -L native=target/staticlib -o isolate
 //!
-//! The module `lutemarble` has all four calls as safe functions, to be copied.
+//! The module `lutemarble` has all five calls as safe functions, to be copied.
 
 use std::fs::File;
 use std::io::{Read, Write};
 use std::process::ExitCode;
 
 /// The proved library. include/lutemarble.h says what holds of every call. A
-/// thread needs so much stack that the call fits: 640 KB are enough for each.
+/// thread needs so much stack that the call fits: 1 MB is enough for each.
 #[allow(dead_code)]
 pub mod lutemarble {
-    /// The bytes of the longest chip data file of `check`, `address` and
-    /// `isolate`.
+    /// The most slots of a board.
+    pub const SLOTS: usize = 16;
+    /// The bytes of the longest chip data file of `check`, `address`, `isolate`
+    /// and `board`.
     pub const FILE_BYTES: usize = 1_048_576;
     /// The bytes of the longest chip data file of `report`, which has the
     /// station's limits.
     pub const REPORT_FILE_BYTES: usize = 65_536;
-    /// The bytes of the longest readings file.
-    pub const READINGS_BYTES: usize = 16_384;
-    /// The bytes of a list that has room for every answer.
-    pub const LIST_BYTES: usize = 524_288;
+    /// The bytes of the longest readings file, and of that of `report`.
+    pub const READINGS_BYTES: usize = 131_072;
+    pub const REPORT_READINGS_BYTES: usize = 16_384;
+    /// The bytes of a record of a list.
+    pub const RECORD_BYTES: usize = 16;
+    /// The bytes of a list that has room for every answer of `isolate`, and for
+    /// one slot of a board.
+    pub const LIST_BYTES: usize = 1_048_576;
     /// The bytes of a text that has room for every answer.
     pub const TEXT_BYTES: usize = 152_000;
 
@@ -45,6 +55,21 @@ pub mod lutemarble {
 
     impl std::error::Error for Refusal {}
 
+    /// Why a board has no answer: the refusal, and the slot that it is for.
+    #[derive(Clone, Copy, Debug, PartialEq, Eq)]
+    pub struct BoardRefusal {
+        pub refusal: Refusal,
+        pub slot: u64,
+    }
+
+    impl std::fmt::Display for BoardRefusal {
+        fn fmt(&self, f: &mut std::fmt::Formatter<'_>) -> std::fmt::Result {
+            write!(f, "{} slot {}", self.refusal, self.slot)
+        }
+    }
+
+    impl std::error::Error for BoardRefusal {}
+
     /// What the checker says of an accepted file.
     #[derive(Clone, Copy, Debug, PartialEq, Eq)]
     pub struct Summary {
@@ -59,10 +84,12 @@ pub mod lutemarble {
     /// One listed bit.
     #[derive(Clone, Copy, Debug, PartialEq, Eq)]
     pub struct Record {
+        pub model: u32,
         pub attention_type: u8,
         pub bit: u8,
         pub node: u16,
         pub instance: u8,
+        pub slot: u8,
     }
 
     #[link(name = "abi", kind = "static")]
@@ -89,6 +116,25 @@ pub mod lutemarble {
             word_count: usize,
             read: *const u8,
             read_count: usize,
+            list: *mut u8,
+            list_bytes: usize,
+            out: *mut u64,
+            places: usize,
+        ) -> u64;
+        fn lutemarble_board(
+            files: *const u8,
+            files_bytes: usize,
+            file_lengths: *const u64,
+            file_slots: usize,
+            attention_type: u8,
+            words: *const u64,
+            word_count: usize,
+            word_lengths: *const u64,
+            word_slots: usize,
+            read: *const u8,
+            read_count: usize,
+            read_lengths: *const u64,
+            read_slots: usize,
             list: *mut u8,
             list_bytes: usize,
             out: *mut u64,
@@ -180,14 +226,103 @@ pub mod lutemarble {
             )
         };
         let [_, _, records, steps] = answered(out)?;
+        Ok((records_of(&list, records), steps))
+    }
+
+    /// The first so many records of a list.
+    fn records_of(list: &[u8], count: u64) -> Vec<Record> {
+        let records = list.chunks(RECORD_BYTES).take(count as usize);
         let record = |bytes: &[u8]| Record {
-            attention_type: bytes[0],
-            bit: bytes[1],
-            node: u16::from_be_bytes([bytes[2], bytes[3]]),
-            instance: bytes[4],
+            model: u32::from_be_bytes([bytes[0], bytes[1], bytes[2], bytes[3]]),
+            attention_type: bytes[4],
+            bit: bytes[5],
+            node: u16::from_be_bytes([bytes[6], bytes[7]]),
+            instance: bytes[8],
+            slot: bytes[9],
         };
-        let listed = list.chunks(8).take(records as usize).map(record).collect();
-        Ok((listed, steps))
+        records.map(record).collect()
+    }
+
+    /// A chip data file, and its readings as `isolate` takes them.
+    pub type Slot = (Vec<u8>, Vec<Option<u64>>);
+
+    /// Isolation of a board: the listed bits of all slots and their steps.
+    pub fn board(slots: &[Slot], attention_type: u8) -> Result<(Vec<Record>, u64), BoardRefusal> {
+        let files: Vec<u8> = slots.iter().flat_map(|(file, _)| file).copied().collect();
+        let readings: Vec<Option<u64>> = slots.iter().flat_map(|(_, r)| r).copied().collect();
+        let words: Vec<u64> = readings.iter().map(|r| r.unwrap_or(0)).collect();
+        let read: Vec<u8> = readings.iter().map(|r| r.is_some().into()).collect();
+        let file_lengths: Vec<u64> = slots.iter().map(|(file, _)| file.len() as u64).collect();
+        let reading_lengths: Vec<u64> = slots.iter().map(|(_, r)| r.len() as u64).collect();
+        let mut list = vec![0; LIST_BYTES * slots.len()];
+        let mut out = [0; 5];
+        // SAFETY: as in `check`; `list` and `out` are buffers of their own.
+        unsafe {
+            lutemarble_board(
+                files.as_ptr(),
+                files.len(),
+                file_lengths.as_ptr(),
+                file_lengths.len(),
+                attention_type,
+                words.as_ptr(),
+                words.len(),
+                reading_lengths.as_ptr(),
+                reading_lengths.len(),
+                read.as_ptr(),
+                read.len(),
+                reading_lengths.as_ptr(),
+                reading_lengths.len(),
+                list.as_mut_ptr(),
+                list.len(),
+                out.as_mut_ptr(),
+                out.len(),
+            )
+        };
+        let slot = out[4];
+        let [_, _, records, steps, _] =
+            answered(out).map_err(|refusal| BoardRefusal { refusal, slot })?;
+        Ok((records_of(&list, records), steps))
+    }
+
+    /// The readings of a readings file, as `isolate` and `board` take them. None
+    /// at all where it does not fit the chip data file, which these calls then
+    /// refuse by 17, or where that is refused itself.
+    pub fn decode(file: &[u8], readings: &[u8]) -> Vec<Option<u64>> {
+        let names = match check(file) {
+            Ok(summary) => register_names(file, summary.registers),
+            Err(_) => return Vec::new(),
+        };
+        if readings.len() != 16 * names.len() {
+            return Vec::new();
+        }
+        let value = |(reading, name): (&[u8], &[u8; 4])| {
+            let value = reading[8..].iter().fold(0, |v, &b| v << 8 | u64::from(b));
+            match reading[4..8] {
+                _ if reading[..4] != *name => None,
+                [1, 0, 0, 0] => Some(Some(value)),
+                [0, 0, 0, 0] if value == 0 => Some(None),
+                _ => None,
+            }
+        };
+        let values: Option<_> = readings.chunks(16).zip(&names).map(value).collect();
+        values.unwrap_or_default()
+    }
+
+    /// ID and number of the register instances of an accepted file, in which the
+    /// registers begin at byte 20: ID (3), type, flags, number of instances; and
+    /// each instance is its number and an address of 4 bytes, or 8 for type 2.
+    fn register_names(file: &[u8], registers: u64) -> Vec<[u8; 4]> {
+        let mut names = Vec::new();
+        let mut rest = &file[20..];
+        for _ in 0..registers {
+            let (head, instances) = rest.split_at(6);
+            let size = if head[3] == 2 { 9 } else { 5 };
+            let (instances, behind) = instances.split_at(size * usize::from(head[5]));
+            let name = |instance: &[u8]| [head[0], head[1], head[2], instance[0]];
+            names.extend(instances.chunks(size).map(name));
+            rest = behind;
+        }
+        names
     }
 
     /// The station's text by the station's limits, that of a refusal in `Err`.
@@ -225,19 +360,53 @@ fn load(path: &str, most: usize) -> Vec<u8> {
     bytes
 }
 
+/// The lines of a board, those of a refusal in `Err`.
+fn board_text(paths: &[String], attention_type: u8) -> Result<Vec<u8>, Vec<u8>> {
+    let slot = |pair: &[String]| {
+        let file = load(&pair[0], lutemarble::FILE_BYTES);
+        let readings = load(&pair[1], lutemarble::READINGS_BYTES);
+        let readings = lutemarble::decode(&file, &readings);
+        (file, readings)
+    };
+    let slots: Vec<lutemarble::Slot> = paths.chunks(2).map(slot).collect();
+    let (records, steps) = lutemarble::board(&slots, attention_type)
+        .map_err(|refusal| format!("{refusal}\n").into_bytes())?;
+    let mut text = String::new();
+    for r in records {
+        text += &format!(
+            "slot {} type {} node {} inst {} bit {}\n",
+            r.slot, r.attention_type, r.node, r.instance, r.bit
+        );
+    }
+    text += &format!("steps {steps}\n");
+    Ok(text.into_bytes())
+}
+
+/// The station's text, that of a refusal in `Err`.
+fn station_text(chip: &str, readings: &str, attention_type: u8) -> Result<Vec<u8>, Vec<u8>> {
+    let chip = load(chip, lutemarble::REPORT_FILE_BYTES);
+    let readings = load(readings, lutemarble::REPORT_READINGS_BYTES);
+    lutemarble::report(&chip, attention_type, &readings)
+}
+
 fn main() -> ExitCode {
     let arguments: Vec<String> = std::env::args().skip(1).collect();
-    let [chip, readings, attention_type] = arguments.as_slice() else {
-        eprintln!("usage: isolate CHIP READINGS TYPE");
+    let slots = arguments.len() / 2;
+    let (1..=lutemarble::SLOTS, 1, Some((attention_type, paths))) =
+        (slots, arguments.len() % 2, arguments.split_last())
+    else {
+        eprintln!("usage: isolate CHIP READINGS [CHIP READINGS ..] TYPE");
         return ExitCode::from(2);
     };
     let Ok(attention_type) = attention_type.parse::<u8>() else {
         eprintln!("isolate: the type is a number from 0 to 255, not '{attention_type}'");
         return ExitCode::from(2);
     };
-    let chip = load(chip, lutemarble::REPORT_FILE_BYTES);
-    let readings = load(readings, lutemarble::READINGS_BYTES);
-    let (text, status) = match lutemarble::report(&chip, attention_type, &readings) {
+    let answer = match paths {
+        [chip, readings] => station_text(chip, readings, attention_type),
+        _ => board_text(paths, attention_type),
+    };
+    let (text, status) = match answer {
         Ok(text) => (text, 0),
         Err(text) => (text, 1),
     };
@@ -250,7 +419,9 @@ fn main() -> ExitCode {
 
 #[cfg(test)]
 mod tests {
-    use super::lutemarble::{address, check, isolate, report, Record, Refusal, Summary};
+    use super::lutemarble::{
+        address, board, check, decode, isolate, report, BoardRefusal, Record, Refusal, Summary,
+    };
 
     const B1: &[u8] = b"CHIPDATA\x00\x00\x00\x01\x01\
         REGS\x00\x00\x01\x00\x00\x01\x01\x80\x01\x00\x00\x00\x10\x00\
@@ -259,6 +430,46 @@ mod tests {
 
     const fn refusal(number: u64, place: u64) -> Refusal {
         Refusal { number, place }
+    }
+
+    /// A record of B1.
+    const fn of_slot(slot: u8, bit: u8) -> Record {
+        Record {
+            model: 1,
+            attention_type: 3,
+            bit,
+            node: 1,
+            instance: 0,
+            slot,
+        }
+    }
+
+    #[test]
+    fn boards_of_b1() {
+        let slot = |reading| (B1.to_vec(), vec![reading]);
+        let two = [slot(Some(1 << 63)), slot(Some(1))];
+        assert_eq!(board(&two, 3), Ok((vec![of_slot(0, 0), of_slot(1, 63)], 2)));
+        let refused = |number, place, slot| {
+            let refusal = refusal(number, place);
+            Err(BoardRefusal { refusal, slot })
+        };
+        assert_eq!(board(&[slot(Some(1)), slot(None)], 3), refused(18, 46, 1));
+        assert_eq!(board(&two, 6), refused(15, 0, 0));
+        assert_eq!(board(&[], 3), refused(20, 0, 0));
+        assert_eq!(board(&vec![slot(Some(1)); 17], 3), refused(20, 0, 0));
+    }
+
+    #[test]
+    fn readings_of_b1() {
+        let readings = [0, 0, 1, 0, 1, 0, 0, 0, 0x80, 0, 0, 0, 0, 0, 0, 0];
+        assert_eq!(decode(B1, &readings), [Some(1 << 63)]);
+        assert_eq!(decode(B1, &readings[..15]), []);
+        assert_eq!(decode(&B1[..59], &readings), []);
+        let mut unread = readings;
+        unread[4] = 0;
+        assert_eq!(decode(B1, &unread), []);
+        unread[8] = 0;
+        assert_eq!(decode(B1, &unread), [None]);
     }
 
     #[test]
@@ -276,12 +487,7 @@ mod tests {
         assert_eq!(check(&[]), Err(refusal(2, 0)));
         assert_eq!(address(B1, 1, 0), Ok(&B1[27..31]));
         assert_eq!(address(B1, 1, 1), Err(refusal(12, 0)));
-        let record = |bit| Record {
-            attention_type: 3,
-            bit,
-            node: 1,
-            instance: 0,
-        };
+        let record = |bit| of_slot(0, bit);
         assert_eq!(isolate(B1, 3, &[Some(1 << 63)]), Ok((vec![record(0)], 1)));
         assert_eq!(isolate(B1, 3, &[Some(1)]), Ok((vec![record(63)], 1)));
         assert_eq!(isolate(B1, 3, &[Some(0)]), Ok((vec![], 1)));

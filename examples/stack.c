@@ -1,6 +1,7 @@
 /* stack CHIP READINGS TYPE: the bytes of stack that each call of the library uses on these two files and this type, one
  * line a call, as the name and the number. Each call runs in a thread whose stack is full of a pattern; what is no longer
- * the pattern afterwards was used. The thread's own part, that of a call which does nothing, is taken off. */
+ * the pattern afterwards was used. The thread's own part, that of a call which does nothing, is taken off. The board has
+ * the file and its readings in each of 16 slots. */
 #include <pthread.h>
 #include <stdio.h>
 #include <stdlib.h>
@@ -12,11 +13,10 @@
 #define STACK_BYTES (8u << 20)
 #define PATTERN 0xA5
 
-/* Room for the largest inputs of any call and a byte more: the library takes 1,048,576 bytes, 8,192 register instances and
- * 1,024 node instances, which have 64 bits each. */
+/* Room for the largest inputs of any call and a byte more: the library takes 1,048,576 bytes and 8,192 register
+ * instances. */
 #define MOST_FILE_BYTES 1048577
 #define MOST_INSTANCES 8193
-#define MOST_LIST_BYTES (1024u * 64u * LUTEMARBLE_RECORD_BYTES)
 
 static uint8_t file[MOST_FILE_BYTES];
 static size_t file_bytes;
@@ -26,7 +26,12 @@ static uint8_t type;
 static uint64_t words[MOST_INSTANCES];
 static uint8_t read_bytes[MOST_INSTANCES];
 static size_t instances;
-static uint8_t list[MOST_LIST_BYTES];
+static uint8_t files[LUTEMARBLE_SLOTS * MOST_FILE_BYTES];
+static uint64_t file_lengths[LUTEMARBLE_SLOTS];
+static uint64_t board_words[LUTEMARBLE_SLOTS * MOST_INSTANCES];
+static uint8_t board_read_bytes[LUTEMARBLE_SLOTS * MOST_INSTANCES];
+static uint64_t reading_lengths[LUTEMARBLE_SLOTS];
+static uint8_t list[LUTEMARBLE_BOARD_LIST_BYTES];
 static uint8_t text[LUTEMARBLE_TEXT_BYTES];
 static uint64_t out[LUTEMARBLE_CHECK_PLACES];
 
@@ -52,6 +57,15 @@ static void *isolate(void *p)
 {
     lutemarble_isolate(file, file_bytes, type, words, instances, read_bytes, instances, list, sizeof list, out,
                        LUTEMARBLE_ISOLATE_PLACES);
+    return p;
+}
+
+static void *board(void *p)
+{
+    size_t count = LUTEMARBLE_SLOTS * instances;
+    lutemarble_board(files, LUTEMARBLE_SLOTS * file_bytes, file_lengths, LUTEMARBLE_SLOTS, type, board_words, count,
+                     reading_lengths, LUTEMARBLE_SLOTS, board_read_bytes, count, reading_lengths, LUTEMARBLE_SLOTS, list,
+                     sizeof list, out, LUTEMARBLE_BOARD_PLACES);
     return p;
 }
 
@@ -114,10 +128,18 @@ int main(int argc, char **argv)
         for (k = 8; k < LUTEMARBLE_READING_BYTES; k++)
             words[i] = words[i] << 8 | reading[k];
     }
+    for (i = 0; i < LUTEMARBLE_SLOTS; i++) {
+        memcpy(files + file_bytes * i, file, file_bytes);
+        memcpy(board_words + instances * i, words, instances * sizeof *words);
+        memcpy(board_read_bytes + instances * i, read_bytes, instances);
+        file_lengths[i] = file_bytes;
+        reading_lengths[i] = instances;
+    }
     own = used(nothing);
     printf("check %zu\n", used(check) - own);
     printf("address %zu\n", used(address) - own);
     printf("isolate %zu\n", used(isolate) - own);
+    printf("board %zu\n", used(board) - own);
     printf("report %zu\n", used(report) - own);
     return 0;
 }

@@ -5,8 +5,8 @@
  *
  * What holds of every call:
  *
- * Input     Any bytes may be lent as a file, as readings or as a list, of any length: no call has a precondition on their
- *           content, and each checks the file itself.
+ * Input     Any bytes may be lent as a file, as readings or as a list, of any length, and any numbers as lengths of slots:
+ *           no call has a precondition on their content, and each checks the file itself.
  * Buffers   A buffer is a pointer and the number of its elements, in this order. The pointer is valid for that many
  *           elements and aligned for them. With length 0 it may be NULL; nothing is read or written through it.
  * Overlap   A buffer that a call writes (list, text, out) overlaps no other buffer of the call. Buffers that are only
@@ -16,10 +16,10 @@
  *           that it writes.
  * Memory    No call allocates, opens, prints, waits, sets errno or raises a signal. All its working memory is on the
  *           stack of the caller's thread: see LUTEMARBLE_..._STACK below.
- * Answer    Of the three calls with an `out`: it gets numbers, the first being the refusal number (0: not refused) and the second its place. An `out`
- *           with fewer places than the call's number of them keeps what it has; one with more keeps the rest. The refusal
- *           number is also returned, so that a caller who lends no `out` learns it. It is 0 or one of 1 to 19: the library's
- *           own number 43, for its tables, is never answered here.
+ * Answer    Of the four calls with an `out`: it gets numbers, the first being the refusal number (0: not refused) and the
+ *           second its place. An `out` with fewer places than the call's number of them keeps what it has; one with more
+ *           keeps the rest. The refusal number is also returned, so that a caller who lends no `out` learns it. It is 0 or
+ *           one of 1 to 20: the library's own number 43, for its tables, is never answered here.
  *
  * Stack     A thread whose stack is too small dies (SIGSEGV) at the guard page below it, and where it has none, what lies
  *           below is overwritten. No call tests for it and no proof speaks of it. The constants are what each call needs
@@ -38,8 +38,8 @@
 extern "C" {
 #endif
 
-/* The limits of a chip data file for check, address and isolate: bytes, register instances, node instances. A longer file
- * is refused by 1, and one with more instances by 8. */
+/* The limits of a chip data file for check, address, isolate and each slot of board: bytes, register instances, node
+ * instances. A longer file is refused by 1, and one with more instances by 8. */
 #define LUTEMARBLE_FILE_BYTES 1048576
 #define LUTEMARBLE_REGISTER_INSTANCES 8192
 #define LUTEMARBLE_NODE_INSTANCES 1024
@@ -54,10 +54,23 @@ extern "C" {
 #define LUTEMARBLE_READING_BYTES 16
 #define LUTEMARBLE_READINGS_BYTES 16384
 
-/* The bytes of one record of a list; and those of a list that has room for every answer: 64 bits of each of 1,024 node
- * instances. */
-#define LUTEMARBLE_RECORD_BYTES 8
-#define LUTEMARBLE_LIST_BYTES 524288
+/* The bytes of one record of a list:
+ *
+ *     0  model/level of the chip data file (4, big-endian)
+ *     4  attention type
+ *     5  bit
+ *     6  node ID (2, big-endian)
+ *     8  instance
+ *     9  slot (0 in isolate)
+ *    10  six zeros
+ *
+ * And those of a list that has room for every answer of isolate: 64 bits of each of 1,024 node instances. */
+#define LUTEMARBLE_RECORD_BYTES 16
+#define LUTEMARBLE_LIST_BYTES 1048576
+
+/* The most slots of a board, and the bytes of a list that has room for every answer of board: as many records for each. */
+#define LUTEMARBLE_SLOTS 16
+#define LUTEMARBLE_BOARD_LIST_BYTES 16777216
 
 /* The bytes of a text that has room for every answer of lutemarble_report. */
 #define LUTEMARBLE_TEXT_BYTES 152000
@@ -66,13 +79,15 @@ extern "C" {
 #define LUTEMARBLE_CHECK_PLACES 8
 #define LUTEMARBLE_ADDRESS_PLACES 4
 #define LUTEMARBLE_ISOLATE_PLACES 4
+#define LUTEMARBLE_BOARD_PLACES 5
 
-/* The bytes of stack that each call needs for the largest files: 640 KB for the first three and 320 KB for report. A file
- * of at most 256 bytes, with at most 32 register instances and 8 node instances, needs far less: sample B1 of
- * docs/FORMAT.md some 22 KB, and 56 KB in report. */
+/* The bytes of stack that each call needs for the largest files: 640 KB for the first three, 1 MB for board and 320 KB for
+ * report. A file of at most 256 bytes, with at most 32 register instances and 8 node instances, needs far less: sample B1
+ * of docs/FORMAT.md some 22 KB, and 56 KB in report. */
 #define LUTEMARBLE_CHECK_STACK 655360
 #define LUTEMARBLE_ADDRESS_STACK 655360
 #define LUTEMARBLE_ISOLATE_STACK 655360
+#define LUTEMARBLE_BOARD_STACK 1048576
 #define LUTEMARBLE_REPORT_STACK 327680
 
 /* The checker, by the limits LUTEMARBLE_FILE_BYTES and so on. `out` gets 8 numbers: refusal number, place, and for an
@@ -89,14 +104,29 @@ uint64_t lutemarble_address(const uint8_t *file, size_t file_bytes, uint64_t id,
 
 /* Isolation for an attention type. `words` are the readings and `read` their read bytes (1 read, 0 unread), one each for
  * every register instance in file order. Listed are the active bits of reached node instances that have no child, or
- * whose child has no active bit for the type. `list` gets 8 bytes for each: attention type, bit, node ID (2,
- * big-endian), instance, three zeros; every byte after these, and every byte of a list whose call is refused, is as it was.
- * `out` gets 4 numbers: refusal number, place (for 19 the number of records that there are), and the numbers of records
- * and steps (both 0 where it is refused).
+ * whose child has no active bit for the type. `list` gets a record of LUTEMARBLE_RECORD_BYTES for each, with slot 0;
+ * every byte after these, and every byte of a list whose call is refused, is as it was. `out` gets 4 numbers: refusal
+ * number, place (for 19 the number of records that there are), and the numbers of records and steps (both 0 where it is
+ * refused).
  * Returns the refusal number. */
 uint64_t lutemarble_isolate(const uint8_t *file, size_t file_bytes, uint8_t type, const uint64_t *words,
                             size_t word_count, const uint8_t *read, size_t read_count, uint8_t *list, size_t list_bytes,
                             uint64_t *out, size_t out_places);
+
+/* Isolation for an attention type of all chips of a board, in 1 to 16 slots, each as in lutemarble_isolate. The slots'
+ * files, words and read bytes are lent end to end, in slot order, each with a list of the slots' lengths: bytes of the
+ * files, and numbers of words and of read bytes. Lists of another length than 1 to 16, lists of different lengths, and
+ * lengths that do not add up to what is lent (as exact numbers: a sum beyond 64 bits does not) are 20, place 0, before all
+ * else. Then the first slot that isolation refuses by 1 to 18 refuses the board, with its number and its place in the
+ * slot's own file. `list` gets the records of all slots in slot order, each with its slot; if they are more than the list
+ * has whole places for it is 19, place the number of all of them. Every byte after the records, and every byte of a list
+ * whose call is refused, is as it was. `out` gets 5 numbers: refusal number, place, the number of records, the steps of all
+ * slots together (both 0 where it is refused), and the slot that is refused (0 with 19 and 20, and where nothing is).
+ * Returns the refusal number. */
+uint64_t lutemarble_board(const uint8_t *files, size_t files_bytes, const uint64_t *file_lengths, size_t file_slots,
+                          uint8_t type, const uint64_t *words, size_t word_count, const uint64_t *word_lengths,
+                          size_t word_slots, const uint8_t *read, size_t read_count, const uint64_t *read_lengths,
+                          size_t read_slots, uint8_t *list, size_t list_bytes, uint64_t *out, size_t out_places);
 
 /* The station's text for a file, an attention type and a readings file: a line for each listed bit and one with the step
  * count, or one line with the refusal. It has the station's limits (LUTEMARBLE_REPORT_...): a file beyond them is refused

@@ -1,11 +1,13 @@
-//! Hand-made checker cases, and isolation calls in modules of their own. The
+//! Hand-made checker cases, and isolation and board calls in modules of their own. The
 //! verdicts are written from the papers; offsets stand beside the pieces that
 //! files are put together from.
 
 mod bits;
+mod boards;
 mod isolation;
 mod limits;
 
+pub use boards::BoardCase;
 pub use isolation::Isolation;
 pub use limits::AtALimit;
 
@@ -105,6 +107,11 @@ pub fn isolations_of_files() -> Vec<Isolation> {
 /// Those with patterns of bits.
 pub fn isolations_of_bits() -> Vec<Isolation> {
     bits::all()
+}
+
+/// The board calls.
+pub fn boards() -> Vec<BoardCase> {
+    boards::all()
 }
 
 /// Files at the limits and beyond them, with the station's text too.

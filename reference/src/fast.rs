@@ -10,8 +10,9 @@
 use std::num::NonZeroU32;
 use std::ops::Range;
 
+use crate::board::{BoardRefusal, Lent, MOST_SLOTS};
 use crate::checker::Summary;
-use crate::isolation::RECORD_BYTES;
+use crate::isolation::{Record, ONLY_SLOT, RECORD_BYTES};
 use crate::layout::{
     is_attention_type, Limits, CHIP_KEYWORD, EXPRESSION_AND, EXPRESSION_CONSTANT, EXPRESSION_NOT,
     EXPRESSION_OR, EXPRESSION_REGISTER, EXPRESSION_SHIFT_LEFT, EXPRESSION_SHIFT_RIGHT,
@@ -53,6 +54,95 @@ pub fn isolate(
     read: &[u8],
     list: &mut [u8],
 ) -> Result<(usize, usize), Refusal> {
+    let (chip, (records, steps)) = isolated(file, attention_type, words, read)?;
+    if list.len() / RECORD_BYTES < records {
+        return Err(Refusal::new(refusal::NO_ROOM, records));
+    }
+    let (mut places, _) = list.as_chunks_mut::<RECORD_BYTES>();
+    for instance in &chip.node_instances {
+        let first = chip.record_of(instance, ONLY_SLOT);
+        places = put_records(places, first, instance.listed);
+    }
+    Ok((records, steps))
+}
+
+/// As [`crate::isolate_board`].
+pub fn isolate_board(
+    files: Lent<'_, u8>,
+    attention_type: u8,
+    words: Lent<'_, u64>,
+    read: Lent<'_, u8>,
+    list: &mut [u8],
+) -> Result<(usize, usize), BoardRefusal> {
+    let slots = files.lengths.len();
+    if !(1..=MOST_SLOTS).contains(&slots)
+        || words.lengths.len() != slots
+        || read.lengths.len() != slots
+        || !adds_up(files)
+        || !adds_up(words)
+        || !adds_up(read)
+    {
+        return refuse_board(Refusal::new(refusal::BOARD_DOES_NOT_ADD_UP, 0), 0);
+    }
+    // Nothing is put to the list before it is known that no slot is refused.
+    let mut listed = Vec::new();
+    let (mut records, mut steps) = (0, 0);
+    let (mut files_left, mut words_left, mut read_left) = (files.all, words.all, read.all);
+    for slot in 0..slots {
+        let file = take_part(&mut files_left, files.lengths[slot]);
+        let words = take_part(&mut words_left, words.lengths[slot]);
+        let read = take_part(&mut read_left, read.lengths[slot]);
+        let slot = slot as u8;
+        match isolated(file, attention_type, words, read) {
+            Ok((chip, (of_slot, steps_of_slot))) => {
+                records += of_slot;
+                steps += steps_of_slot;
+                let instances = chip.node_instances.iter();
+                listed.extend(
+                    instances
+                        .filter(|instance| instance.listed != 0)
+                        .map(|instance| (chip.record_of(instance, slot), instance.listed)),
+                );
+            }
+            Err(refusal) => return refuse_board(refusal, slot),
+        }
+    }
+    if list.len() / RECORD_BYTES < records {
+        return refuse_board(Refusal::new(refusal::NO_ROOM, records), 0);
+    }
+    let (mut places, _) = list.as_chunks_mut::<RECORD_BYTES>();
+    for (first, bits) in listed {
+        places = put_records(places, first, bits);
+    }
+    Ok((records, steps))
+}
+
+#[cold]
+fn refuse_board<T>(refusal: Refusal, slot: u8) -> Result<T, BoardRefusal> {
+    Err(BoardRefusal { refusal, slot })
+}
+
+/// Whether the lengths add up to what is lent.
+fn adds_up<T>(lent: Lent<'_, T>) -> bool {
+    let mut lengths = lent.lengths.iter();
+    let sum = lengths.try_fold(0u64, |sum, &length| sum.checked_add(length));
+    sum == Some(lent.all.len() as u64)
+}
+
+/// The first part, of a length that is known to be there.
+fn take_part<'a, T>(left: &mut &'a [T], length: u64) -> &'a [T] {
+    let (part, rest) = left.split_at(length as usize);
+    *left = rest;
+    part
+}
+
+/// The chip with its bits to list, and how many they are, and the steps.
+fn isolated<'a>(
+    file: &'a [u8],
+    attention_type: u8,
+    words: &[u64],
+    read: &[u8],
+) -> Result<(Chip<'a>, (usize, usize)), Refusal> {
     let mut chip = Chip::read(file, Limits::LIBRARY, attention_type)?;
     let root = chip.root()?;
     let instances = chip.register_instances;
@@ -61,21 +151,24 @@ pub fn isolate(
     if words.len() != instances || read.len() != instances || together > READ {
         return Err(Refusal::new(refusal::READINGS_DO_NOT_FIT, 0));
     }
-    let (records, steps) = chip.isolate_from(root, words, read)?;
-    if list.len() / RECORD_BYTES < records {
-        return Err(Refusal::new(refusal::NO_ROOM, records));
-    }
-    let (mut places, _) = list.as_chunks_mut::<RECORD_BYTES>();
-    for instance in &chip.node_instances {
-        let (own, rest) = places.split_at_mut(instance.listed.count_ones() as usize);
-        let [high, low] = instance.id.to_be_bytes();
-        for (place, bit) in own.iter_mut().zip(bits_of(instance.listed)) {
-            *place = [attention_type, bit, high, low, instance.number, 0, 0, 0];
-        }
-        places = rest;
-    }
-    Ok((records, steps))
+    let counts = chip.isolate_from(root, words, read)?;
+    Ok((chip, counts))
 }
+
+/// Puts the records of these bits to the first places, all like `first` but for
+/// the bit. Returns the places behind them.
+#[inline]
+fn put_records(places: &mut [Record], first: Record, bits: u64) -> &mut [Record] {
+    let (own, rest) = places.split_at_mut(bits.count_ones() as usize);
+    for (place, bit) in own.iter_mut().zip(bits_of(bits)) {
+        *place = first;
+        place[BIT_AT] = bit;
+    }
+    rest
+}
+
+/// The place of the bit in a record.
+const BIT_AT: usize = 5;
 
 /// As [`crate::report`], to the front of a lent text, which gets as much as it
 /// has room for. Returns the length of the whole text.
@@ -1062,6 +1155,17 @@ impl<'a> Chip<'a> {
             return Err(Refusal::new(refusal::UNKNOWN_ATTENTION, 0));
         }
         self.root.ok_or(Refusal::new(refusal::NO_ROOT, 0))
+    }
+
+    /// The record of an instance's bit 0 in a slot.
+    #[inline]
+    fn record_of(&self, instance: &NodeInstance, slot: u8) -> Record {
+        let [a, b, c, d] = self.model.to_be_bytes();
+        let [high, low] = instance.id.to_be_bytes();
+        let (kind, number) = (self.wanted, instance.number);
+        [
+            a, b, c, d, kind, 0, high, low, number, slot, 0, 0, 0, 0, 0, 0,
+        ]
     }
 
     /// Words and read bytes, if the readings file fits.

@@ -1,9 +1,10 @@
 //! Seeded cases for isolation: files, valid and damaged, with attention types,
-//! readings and room.
+//! readings and room; and boards of several of them.
 //!
 //! The same seed gives the same cases.
 
 mod aimed;
+mod boards;
 mod captures;
 mod colliding;
 mod damage;
@@ -14,6 +15,7 @@ mod random;
 mod silent;
 
 pub use aimed::{aimed_case, full_list_case, large_case, too_large_case, Sizes, HIGHEST_NUMBER};
+pub use boards::{board_around, listing_case};
 pub use colliding::{
     case_of, colliding_case, colliding_file, crowds, crowds_of_the_largest, name_like,
 };
@@ -143,7 +145,12 @@ fn room(random: &mut Random) -> usize {
         2 => random.below(64),
         _ => 4_096,
     };
-    records * isolation::RECORD_BYTES + if random.one_in(4) { random.below(8) } else { 0 }
+    records * isolation::RECORD_BYTES
+        + if random.one_in(4) {
+            random.below(16)
+        } else {
+            0
+        }
 }
 
 /// The readings file of the case's readings, often one that does not fit. The

@@ -8,10 +8,53 @@ use crate::readings::{self, Readings};
 use crate::refusal::{self, Refusal};
 use crate::tree::{Child, NodeInstance, NodeName};
 
-/// Attention type, bit, node ID (2), instance, three zeros.
-pub const RECORD_BYTES: usize = 8;
+/// Model/level (4), attention type, bit, node ID (2), instance, slot, six zeros.
+pub const RECORD_BYTES: usize = 16;
 
 pub type Record = [u8; RECORD_BYTES];
+
+/// The record of a listed bit.
+pub fn record(model: u32, attention_type: u8, bit: u8, node: NodeName, slot: u8) -> Record {
+    let mut record = [0; RECORD_BYTES];
+    record[..4].copy_from_slice(&model.to_be_bytes());
+    record[4] = attention_type;
+    record[5] = bit;
+    record[6..8].copy_from_slice(&node.id.to_be_bytes());
+    record[8] = node.instance;
+    record[9] = slot;
+    record
+}
+
+/// The bit of a record and its node instance.
+pub fn listed_bit(record: &Record) -> (NodeName, u8) {
+    let [_, _, _, _, _, bit, high, low, instance, ..] = *record;
+    let id = u16::from_be_bytes([high, low]);
+    (NodeName { id, instance }, bit)
+}
+
+/// The slot of a chip that is alone.
+pub const ONLY_SLOT: u8 = 0;
+
+/// What isolation finds where nothing is refused.
+#[derive(Clone, Debug, Default, PartialEq, Eq)]
+pub struct Found {
+    pub records: Vec<Record>,
+    pub steps: usize,
+}
+
+impl Found {
+    /// Writes the records to the list and returns how many they are, and the
+    /// number of steps; or refuses for want of room.
+    pub fn put(&self, list: &mut [u8]) -> Result<(usize, usize), Refusal> {
+        if list.len() / RECORD_BYTES < self.records.len() {
+            return Err(Refusal::new(refusal::NO_ROOM, self.records.len()));
+        }
+        for (place, record) in list.chunks_exact_mut(RECORD_BYTES).zip(&self.records) {
+            place.copy_from_slice(record);
+        }
+        Ok((self.records.len(), self.steps))
+    }
+}
 
 /// Writes the records to the list and returns how many they are, and the
 /// number of steps. The list keeps its bytes beyond the records, and all of
@@ -35,13 +78,26 @@ pub fn isolate_within(
     read: &[u8],
     list: &mut [u8],
 ) -> Result<(usize, usize), Refusal> {
+    find(file, limits, ONLY_SLOT, attention_type, words, read)?.put(list)
+}
+
+/// What there is to list of the chip in a slot, whatever room there is: refusals
+/// 1 to 18.
+pub fn find(
+    file: &[u8],
+    limits: Limits,
+    slot: u8,
+    attention_type: u8,
+    words: &[u64],
+    read: &[u8],
+) -> Result<Found, Refusal> {
     let accepted = Accepted::read_within(file, limits)?;
     let root = accepted.root(attention_type)?;
     let readings = Readings::fit(&accepted.tree, words, read)?;
-    accepted.isolate_from(root, attention_type, readings, list)
+    accepted.find_from(root, slot, attention_type, readings)
 }
 
-/// The same, with the readings taken from a readings file.
+/// As [`isolate_within`], with the readings taken from a readings file.
 pub fn isolate_with_readings_file(
     file: &[u8],
     limits: Limits,
@@ -53,7 +109,8 @@ pub fn isolate_with_readings_file(
     let root = accepted.root(attention_type)?;
     let (words, read) = readings::decode(&accepted.tree, readings_file)?;
     let readings = Readings::fit(&accepted.tree, &words, &read)?;
-    accepted.isolate_from(root, attention_type, readings, list)
+    let found = accepted.find_from(root, ONLY_SLOT, attention_type, readings)?;
+    found.put(list)
 }
 
 /// How many of the bits to list have a child, which then shows nothing. They
@@ -72,9 +129,8 @@ pub fn bits_above_silent(file: &[u8], attention_type: u8, words: &[u64], read: &
         return 0;
     };
     let has_child = |record: &&Record| {
-        let [_, bit, high, low, instance, ..] = **record;
-        let id = u16::from_be_bytes([high, low]);
-        let position = accepted.index.node_instance(NodeName { id, instance });
+        let (node, bit) = listed_bit(record);
+        let position = accepted.index.node_instance(node);
         position.is_some_and(|position| {
             let mut children = accepted.tree.node_instances[position].children.iter();
             children.any(|child| child.bit == bit)
@@ -121,30 +177,26 @@ impl Accepted {
             .ok_or(Refusal::new(refusal::NO_ROOT, 0))
     }
 
-    fn isolate_from(
+    /// The bits to list, and a step for each reached instance.
+    fn find_from(
         &self,
         root: usize,
+        slot: u8,
         attention_type: u8,
         readings: Readings<'_>,
-        list: &mut [u8],
-    ) -> Result<(usize, usize), Refusal> {
+    ) -> Result<Found, Refusal> {
         let active = self.active(root, attention_type, readings)?;
-        let mut records = Vec::new();
-        let mut steps = 0;
+        let mut found = Found::default();
         for (instance, &bits) in self.tree.node_instances.iter().zip(&active) {
             let Some(bits) = bits else { continue };
-            steps += 1;
+            found.steps += 1;
             let listed = bits & !self.with_showing_child(instance, &active);
-            records.extend(records_of(instance, attention_type, listed));
+            // From bit 0 up.
+            let bits = (0..=HIGHEST_BIT).filter(|&bit| bit_is_set(listed, bit));
+            let record = |bit| record(self.tree.model, attention_type, bit, instance.name, slot);
+            found.records.extend(bits.map(record));
         }
-
-        if list.len() / RECORD_BYTES < records.len() {
-            return Err(Refusal::new(refusal::NO_ROOM, records.len()));
-        }
-        for (place, record) in list.chunks_exact_mut(RECORD_BYTES).zip(&records) {
-            place.copy_from_slice(record);
-        }
-        Ok((records.len(), steps))
+        Ok(found)
     }
 
     /// The active bits of each instance that is reached.
@@ -219,27 +271,4 @@ impl Accepted {
             .filter(shows_something)
             .fold(0, |word, child| word | 1u64 << (HIGHEST_BIT - child.bit))
     }
-}
-
-/// The records of these bits of an instance, from bit 0 up.
-fn records_of(
-    instance: &NodeInstance,
-    attention_type: u8,
-    bits: u64,
-) -> impl Iterator<Item = Record> + '_ {
-    let [high, low] = instance.name.id.to_be_bytes();
-    (0..=HIGHEST_BIT)
-        .filter(move |&bit| bit_is_set(bits, bit))
-        .map(move |bit| {
-            [
-                attention_type,
-                bit,
-                high,
-                low,
-                instance.name.instance,
-                0,
-                0,
-                0,
-            ]
-        })
 }

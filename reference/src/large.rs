@@ -756,7 +756,7 @@ mod tests {
             assert_eq!(counts(&file), (4 * instances, instances));
             let words = vec![0xF << 60; 4 * instances];
             let read = vec![1; 4 * instances];
-            let mut list = vec![0; 64 * 64 * 8];
+            let mut list = vec![0; 64 * 64 * 16];
             let answer = isolate(&file, ATTENTION_TYPE, &words, &read, &mut list);
             // Bit 4 of all, and the bits from the missing children's up of the
             // last four.
@@ -834,7 +834,7 @@ mod tests {
         assert_eq!(counts(&file), (255, 255));
         assert_eq!(check(&file).unwrap().roots, 5);
         let words = [u64::MAX; 255];
-        let mut list = vec![0; 64 * 64 * 8];
+        let mut list = vec![0; 64 * 64 * 16];
         let answer = isolate(&file, ATTENTION_TYPE, &words, &[1; 255], &mut list);
         assert_eq!(answer, Ok((64 * 64, 65)));
         // One operand of the OR, the first register, and one child, which shows
@@ -843,7 +843,7 @@ mod tests {
         words[0] = 1;
         let answer = isolate(&file, ATTENTION_TYPE, &words, &[1; 255], &mut list);
         assert_eq!(answer, Ok((1, 2)));
-        assert_eq!(list[..8], [3, 63, 0, 1, 0, 0, 0, 0]);
+        assert_eq!(list[..10], [0, 0, 0, 1, 3, 63, 0, 1, 0, 0]);
     }
 
     #[test]
@@ -852,7 +852,7 @@ mod tests {
             let file = children(count, MOST_CHILDREN, false);
             let words = every_fourth(count);
             let read = vec![1; count];
-            let mut list = vec![0; count * 64 * 8];
+            let mut list = vec![0; count * 64 * 16];
             let answer = isolate(&file, ATTENTION_TYPE, &words, &read, &mut list);
             // Each fourth instance has 64 active bits. 15 of these have a child
             // that shows something, and fewer near the end of the row.
@@ -870,7 +870,7 @@ mod tests {
         for (count, limits) in [(256, Limits::PROGRAM), (1_024, Limits::LIBRARY)] {
             let words = vec![u64::MAX; count];
             let read = vec![1; count];
-            let mut list = vec![0; count * 64 * 8];
+            let mut list = vec![0; count * 64 * 16];
             for backward in [false, true] {
                 for most in [1, MOST_CHILDREN] {
                     let file = children(count, most, backward);

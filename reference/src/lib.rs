@@ -1,6 +1,7 @@
 //! A plain reference for chip data files: the checker, the address query,
-//! readings, error isolation and the station's text.
+//! readings, error isolation of a chip and of a board, and the station's text.
 
+pub mod board;
 pub mod cases;
 pub mod checker;
 pub mod cycles;
@@ -19,6 +20,7 @@ pub mod report;
 pub mod tree;
 pub mod vectors;
 
+pub use board::{isolate_board, BoardRefusal};
 pub use checker::{address, check, Accepted, Summary};
 pub use isolation::{bits_above_silent, isolate, isolate_with_readings_file, reached_words};
 pub use layout::Limits;

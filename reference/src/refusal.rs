@@ -21,6 +21,7 @@ pub const NO_ROOT: u8 = 16;
 pub const READINGS_DO_NOT_FIT: u8 = 17;
 pub const REGISTER_UNREAD: u8 = 18;
 pub const NO_ROOM: u8 = 19;
+pub const BOARD_DOES_NOT_ADD_UP: u8 = 20;
 
 /// Why a call gave no answer. The place is a byte offset in the file, or 0,
 /// or for [`NO_ROOM`] the number of records needed.

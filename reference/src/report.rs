@@ -1,19 +1,12 @@
 //! What the station prints for a chip data file, an attention type and a
 //! readings file. The station has limits of its own, lower than the library's.
 
-use crate::isolation::{isolate_with_readings_file, Record, RECORD_BYTES};
+use crate::isolation::{isolate_with_readings_file, listed_bit, Found, Record, RECORD_BYTES};
 use crate::layout::Limits;
 use crate::refusal::Refusal;
 
 /// The records that the station's list holds.
 pub const LIST_RECORDS: usize = 4_096;
-
-/// What the station prints where nothing is refused.
-#[derive(Clone, Debug, PartialEq, Eq)]
-pub struct Found {
-    pub records: Vec<Record>,
-    pub steps: usize,
-}
 
 /// The whole text: a line for each record and one for the steps, or one line
 /// for the refusal. All numbers are decimal, and each line has its end.
@@ -49,7 +42,10 @@ pub fn text(answer: &Result<Found, Refusal>) -> String {
 }
 
 fn line(record: &Record) -> String {
-    let [attention_type, bit, high, low, instance, ..] = *record;
-    let id = u16::from_be_bytes([high, low]);
-    format!("type {attention_type} node {id} inst {instance} bit {bit}\n")
+    let (node, bit) = listed_bit(record);
+    let attention_type = record[4];
+    format!(
+        "type {attention_type} node {} inst {} bit {bit}\n",
+        node.id, node.instance
+    )
 }

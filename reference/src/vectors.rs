@@ -3,19 +3,21 @@
 
 use std::collections::HashMap;
 
+use crate::board::{Board, BoardRefusal, MOST_SLOTS};
 use crate::checker::{self, Accepted};
 use crate::generate::{self, Case, Random, Sizes, HIGHEST_NUMBER};
 use crate::isolation::RECORD_BYTES;
 use crate::large::{self, Order};
 use crate::layout::{self, Limits};
-use crate::readings::READ;
+use crate::readings::{READ, UNREAD};
 use crate::refusal::{self, Refusal};
-use crate::{address, bits_above_silent, cases, check, isolate};
+use crate::{address, bits_above_silent, cases, check, isolate, isolate_board};
 
 pub const KEYWORD: [u8; 8] = *b"LUTEVECT";
 /// Keyword, place of the first case (4), number of cases (4).
 pub const START_BYTES: usize = 16;
-/// What each case has before its words.
+/// What each case has before its words. The last three numbers of a board's are
+/// no part of the answer but say how many lengths its lists have.
 pub const CASE_BYTES: usize = 56;
 /// Number, place and up to six more, 4 bytes each.
 pub const EXPECTED: usize = 8;
@@ -23,26 +25,33 @@ pub const EXPECTED: usize = 8;
 // What a reader may count on.
 pub const MOST_BYTES: usize = 1_500_000;
 pub const MOST_WORDS: usize = 1_100;
-pub const MOST_LIST_BYTES: usize = 33_000;
+/// Of one list.
+pub const MOST_LENGTHS: usize = 40;
+pub const MOST_LIST_BYTES: usize = 66_000;
 
 #[derive(Clone, Copy, Debug, PartialEq, Eq, Hash, PartialOrd, Ord)]
 pub enum Kind {
     Check = 1,
     Address = 2,
     Isolation = 3,
+    Board = 4,
 }
 
 /// One call and its answer, as it stands in the file of vectors.
 #[derive(Clone, Debug, PartialEq, Eq)]
 pub struct Vector<'a> {
     pub kind: Kind,
-    /// Attention type of isolation, instance of an address query.
+    /// Attention type of isolation and of a board, instance of an address query.
     pub selector: u8,
     /// The byte that the list is full of when it is lent.
     pub fill: u8,
+    /// Those of a board end to end.
     pub file: &'a [u8],
-    /// Of isolation; the one word of an address query is the register ID.
+    /// Of isolation and of a board; the one word of an address query is the
+    /// register ID.
     pub words: Vec<u64>,
+    /// Of a board's files, words and read bytes.
+    pub lengths: [Vec<u64>; 3],
     pub read: &'a [u8],
     pub list_bytes: usize,
     pub expected: [u32; EXPECTED],
@@ -51,6 +60,21 @@ pub struct Vector<'a> {
 }
 
 impl Vector<'_> {
+    /// The board of a board call.
+    pub fn board(&self) -> Board {
+        let [file_lengths, word_lengths, read_lengths] = self.lengths.clone();
+        Board {
+            files: self.file.to_vec(),
+            file_lengths,
+            attention_type: self.selector,
+            words: self.words.clone(),
+            word_lengths,
+            read: self.read.to_vec(),
+            read_lengths,
+            room: self.list_bytes,
+        }
+    }
+
     /// How many of the bits that isolation is to list have a child that shows
     /// nothing; 0 for other calls.
     pub fn bits_above_silent(&self) -> usize {
@@ -85,6 +109,23 @@ pub fn expected_of_pair(answer: Result<(usize, usize), Refusal>) -> [u32; EXPECT
         Err(refusal) => expected_of_refusal(refusal),
     }
 }
+
+/// The answer of a board as the vectors have it: with the slot behind the steps,
+/// and without the lengths.
+pub fn expected_of_board(answer: Result<(usize, usize), BoardRefusal>) -> [u32; EXPECTED] {
+    match answer {
+        Ok((records, steps)) => expected_of_pair(Ok((records, steps))),
+        Err(BoardRefusal { refusal, slot }) => {
+            let mut expected = expected_of_refusal(refusal);
+            expected[BOARD_SLOT] = u32::from(slot);
+            expected
+        }
+    }
+}
+
+/// The place of the slot in a board's answer. Behind it stand the numbers of
+/// lengths.
+pub const BOARD_SLOT: usize = 4;
 
 fn expected_of_refusal(refusal: Refusal) -> [u32; EXPECTED] {
     [
@@ -136,11 +177,16 @@ impl<'a> Reader<'a> {
         Some(self.number(4)? as usize)
     }
 
+    fn words(&mut self, count: usize) -> Option<Vec<u64>> {
+        (0..count).map(|_| self.number(8)).collect()
+    }
+
     fn vector(&mut self) -> Option<Vector<'a>> {
         let kind = match self.number(1)? {
             1 => Kind::Check,
             2 => Kind::Address,
             3 => Kind::Isolation,
+            4 => Kind::Board,
             _ => return None,
         };
         let selector = self.number(1)? as u8;
@@ -158,12 +204,18 @@ impl<'a> Reader<'a> {
         for value in &mut expected {
             *value = self.number(4)? as u32;
         }
-        let words = (0..words)
-            .map(|_| self.number(8))
-            .collect::<Option<Vec<u64>>>()?;
+        let words = self.words(words)?;
+        let mut lengths = [const { Vec::new() }; 3];
+        if kind == Kind::Board {
+            let counts = &mut expected[BOARD_SLOT + 1..];
+            for (lengths, count) in lengths.iter_mut().zip(counts) {
+                *lengths = self.words(*count as usize)?;
+                *count = 0;
+            }
+        }
         let read = self.take(read)?;
         let records = match kind {
-            Kind::Isolation => self.take(expected[2] as usize * RECORD_BYTES)?,
+            Kind::Isolation | Kind::Board => self.take(expected[2] as usize * RECORD_BYTES)?,
             _ => &[],
         };
         Some(Vector {
@@ -172,6 +224,7 @@ impl<'a> Reader<'a> {
             fill,
             file,
             words,
+            lengths,
             read,
             list_bytes,
             expected,
@@ -204,6 +257,7 @@ struct Draft {
     fill: u8,
     file: (usize, usize),
     words: Vec<u64>,
+    lengths: [Vec<u64>; 3],
     read: Vec<u8>,
     list_bytes: usize,
     expected: [u32; EXPECTED],
@@ -212,7 +266,8 @@ struct Draft {
 
 impl Draft {
     fn bytes(&self) -> usize {
-        CASE_BYTES + 8 * self.words.len() + self.read.len() + self.records.len()
+        let lengths: usize = self.lengths.iter().map(Vec::len).sum();
+        CASE_BYTES + 8 * (self.words.len() + lengths) + self.read.len() + self.records.len()
     }
 
     fn write(&self, out: &mut Vec<u8>) {
@@ -227,11 +282,17 @@ impl Draft {
         number(self.words.len());
         number(self.read.len());
         number(self.list_bytes);
-        self.expected
-            .iter()
-            .for_each(|&value| number(value as usize));
+        let mut expected = self.expected;
+        if self.kind == Kind::Board {
+            let counts = self.lengths.iter().map(|lengths| lengths.len() as u32);
+            for (value, count) in expected[BOARD_SLOT + 1..].iter_mut().zip(counts) {
+                *value = count;
+            }
+        }
+        expected.iter().for_each(|&value| number(value as usize));
         self.words
             .iter()
+            .chain(self.lengths.iter().flatten())
             .for_each(|word| out.extend(word.to_be_bytes()));
         out.extend(&self.read);
         out.extend(&self.records);
@@ -249,21 +310,48 @@ struct Writer {
     drafts: Vec<Draft>,
     /// Isolation cases by outcome.
     outcomes: [usize; HIGHEST_NUMBER as usize + 1],
+    /// Board cases by outcome.
+    boards: [usize; refusal::BOARD_DOES_NOT_ADD_UP as usize + 1],
 }
 
+const NO_LENGTHS: [Vec<u64>; 3] = [const { Vec::new() }; 3];
+
 /// Each refusal is aimed at until it has so many isolation cases.
-const FEWEST: usize = 60;
+const FEWEST: usize = 46;
 /// A small case of a refusal that has so many is left out.
-const ENOUGH: usize = 72;
-const SUCCESSES: usize = 340;
+const ENOUGH: usize = 54;
+const SUCCESSES: usize = 250;
 /// Isolation cases whose files go on over others.
 const WINDOWS: usize = 80;
+/// Each refusal of a board but 1 and 8, and success, is aimed at until it has so
+/// many board cases.
+const FEWEST_BOARDS: usize = 6;
+const SUCCESSFUL_BOARDS: usize = 34;
+/// The hand-made boards of many slots that are taken.
+const LONG_HAND_MADE_BOARDS: [&str; 6] = [
+    "sixteen",
+    "sixteen-byte-less",
+    "seventeen",
+    "sixteen-and-an-empty-one",
+    "sixteen-wrap-all",
+    "no-root-last",
+];
+/// Names of hand-made boards that end so are left out: others are much like them.
+const LEFT_OUT: [&str; 5] = [
+    "-no-room",
+    "-exact",
+    "-fifteen-more",
+    "-refused-files",
+    "-of-1",
+];
+/// The most bytes of a board's files.
+const MOST_OF_FILES: usize = 1_200;
 /// The most that an ordinary case may add to the file of vectors.
 const MOST_OF_A_CASE: usize = 900;
 /// The most bytes of a file with too many instances that comes by chance.
 const MOST_OF_TOO_MANY: usize = 24_000;
 /// The files of all cases have so many bytes more than one may have.
-const LONGER_THAN_A_FILE: usize = 8_000;
+const LONGER_THAN_A_FILE: usize = 4_000;
 
 impl Writer {
     fn place(&mut self, file: &[u8]) -> (usize, usize) {
@@ -302,11 +390,41 @@ impl Writer {
             fill,
             file,
             words: case.words.clone(),
+            lengths: NO_LENGTHS,
             read: case.read.clone(),
             list_bytes: case.room,
             expected,
             records: list,
         });
+    }
+
+    fn board(&mut self, board: &Board, file: (usize, usize)) {
+        let fill = self.random.byte();
+        let mut list = vec![fill; board.room];
+        let expected = expected_of_board(board.isolate(isolate_board, &mut list));
+        self.boards[expected[0] as usize] += 1;
+        list.truncate(expected[2] as usize * RECORD_BYTES);
+        self.drafts.push(Draft {
+            kind: Kind::Board,
+            selector: board.attention_type,
+            fill,
+            file,
+            words: board.words.clone(),
+            lengths: [
+                board.file_lengths.clone(),
+                board.word_lengths.clone(),
+                board.read_lengths.clone(),
+            ],
+            read: board.read.clone(),
+            list_bytes: board.room,
+            expected,
+            records: list,
+        });
+    }
+
+    fn store_board(&mut self, board: &Board) {
+        let file = self.place(&board.files);
+        self.board(board, file);
     }
 
     fn store_isolation(&mut self, case: &Case) {
@@ -323,6 +441,7 @@ impl Writer {
             fill: 0,
             file,
             words: Vec::new(),
+            lengths: NO_LENGTHS,
             read: Vec::new(),
             list_bytes: 0,
             expected,
@@ -339,6 +458,7 @@ impl Writer {
             fill: 0,
             file,
             words: vec![id],
+            lengths: NO_LENGTHS,
             read: Vec::new(),
             list_bytes: 0,
             expected,
@@ -390,8 +510,8 @@ impl Writer {
 
     /// Gives a list that is much too long only a little more than it needs.
     fn tighten(&mut self, case: &mut Case) {
-        if case.room > 600 {
-            case.room = 600 + self.random.below(9);
+        if case.room > 1_200 {
+            case.room = 1_200 + self.random.below(17);
         }
     }
 
@@ -399,7 +519,7 @@ impl Writer {
     fn vary(&mut self, case: &mut Case) {
         match self.random.below(4) {
             0 => case.attention_type = self.random.below(8) as u8,
-            1 => case.room = self.random.below(100),
+            1 => case.room = self.random.below(200),
             _ => {
                 let instances = case.read.len().max(1);
                 let (words, read) = generate::readings(&mut self.random, instances);
@@ -419,7 +539,7 @@ impl Writer {
             attention_type: self.random.below(7) as u8,
             words: vec![self.random.next()],
             read: vec![READ],
-            room: self.random.below(20),
+            room: self.random.below(40),
         }
     }
 
@@ -520,17 +640,14 @@ impl Writer {
                 words,
                 room,
             };
-            self.store_isolation(&case(vec![0; 2], 800));
-            if instances > MOST_WORDS || instances > 256 && accepted.tree.nodes.len() == 1 {
-                continue;
-            }
-            self.store_isolation(&case(vec![u64::MAX; instances], 8_191));
+            self.store_isolation(&case(vec![0; 2], 1_600));
             if instances > 256 {
                 continue;
             }
+            self.store_isolation(&case(vec![u64::MAX; instances], 16_383));
             // One bit with a child, where there are children.
-            self.store_isolation(&case(vec![1 << 63; instances], 2_048 + 5));
-            let mut unread = case(vec![u64::MAX; instances], 800);
+            self.store_isolation(&case(vec![1 << 63; instances], 4_096 + 5));
+            let mut unread = case(vec![u64::MAX; instances], 1_600);
             unread.read[instances - 1] = 0;
             self.store_isolation(&unread);
         }
@@ -574,12 +691,14 @@ impl Writer {
             let mut words = vec![0; instances];
             words[root] = u64::MAX;
             self.store_isolation(&case(words.clone(), 64 * RECORD_BYTES + 3));
-            self.store_isolation(&case(words, 64 * RECORD_BYTES - 1));
+            if root == last {
+                self.store_isolation(&case(words, 64 * RECORD_BYTES - 1));
+            }
             let mut words = large::every_fourth(instances);
             if root == last {
                 words.reverse();
             }
-            self.store_isolation(&case(words, 600));
+            self.store_isolation(&case(words, 1_200));
         }
     }
 
@@ -593,6 +712,108 @@ impl Writer {
                 read: call.read,
                 room: call.room,
             });
+        }
+    }
+
+    /// Boards whose answers do not come from the reference, some of them.
+    fn hand_made_boards(&mut self) {
+        for case in cases::boards() {
+            let is_left_out = LEFT_OUT.iter().any(|end| case.name.ends_with(end));
+            let is_one_of_two = case.name.contains("-before-");
+            let is_short = case.board.file_lengths.len() <= 4;
+            if LONG_HAND_MADE_BOARDS.contains(&case.name.as_str())
+                || is_short && !is_left_out && !is_one_of_two
+            {
+                self.store_board(&case.board);
+            }
+        }
+    }
+
+    /// Small boards of every outcome but 1 and 8.
+    fn small_boards(&mut self) {
+        for number in 0..=refusal::BOARD_DOES_NOT_ADD_UP {
+            if matches!(number, refusal::FILE_TOO_LONG | refusal::TOO_MANY_INSTANCES) {
+                continue;
+            }
+            let fewest = match number {
+                0 => SUCCESSFUL_BOARDS,
+                _ => FEWEST_BOARDS,
+            };
+            while self.boards[usize::from(number)] < fewest {
+                let aim = number.min(HIGHEST_NUMBER);
+                let case = generate::aimed_case(&mut self.random, aim, Sizes::Small);
+                let board = generate::board_around(&mut self.random, &case);
+                let mut list = vec![0; board.room];
+                let expected = expected_of_board(board.isolate(isolate_board, &mut list));
+                if expected[0] == u32::from(number) && is_small(&board) {
+                    self.store_board(&board);
+                }
+            }
+        }
+    }
+
+    /// B1 in so many slots, with its reading.
+    fn board_of_b1(&mut self, slots: usize) -> Board {
+        let mut board = Board::new(large::ATTENTION_TYPE, self.random.below(400));
+        for _ in 0..slots {
+            board.add(&large::B1, &[self.random.next()], &[READ]);
+        }
+        board
+    }
+
+    /// Boards of B1 that are refused in each slot: for a file that ends too soon,
+    /// a root without its rule, readings that do not fit or an unread register.
+    fn refused_in_each_slot(&mut self) {
+        for slot in 0..MOST_SLOTS {
+            let mut board = self.board_of_b1(slot);
+            let [empty, root, unfit, unread] = std::array::from_fn(|fault| slot % 4 == fault);
+            let mut file = large::B1.to_vec();
+            if empty {
+                file.clear();
+            } else if root {
+                file[56] = 1;
+            }
+            let read = match (unfit, unread) {
+                (true, _) => 2,
+                (_, true) => UNREAD,
+                _ => READ,
+            };
+            board.add(&file, &[1], &[read]);
+            if slot + 1 < MOST_SLOTS && self.random.one_in(2) {
+                board.add(&large::B1, &[1], &[READ]);
+            }
+            self.store_board(&board);
+        }
+    }
+
+    /// One instance more than a file may have, in each of three slots.
+    fn boards_of_too_many(&mut self) {
+        let file = large::short_node_instances(Limits::LIBRARY.node_instances + 1, 255);
+        for slot in [0, 1, MOST_SLOTS - 1] {
+            for cut in [0, 9] {
+                let mut board = self.board_of_b1(slot);
+                board.add(&file[..file.len() - cut], &[1], &[READ]);
+                self.store_board(&board);
+            }
+        }
+    }
+
+    /// Boards whose last file goes on over those stored behind it. The files of
+    /// other slots are the first that are stored.
+    fn windows_of_boards(&mut self) {
+        let most = Limits::LIBRARY.bytes;
+        for slots in [0, 1, 2, MOST_SLOTS - 1] {
+            let mut board = self.board_of_b1(slots);
+            let (start, _) = self.place(&board.files);
+            let behind = start + board.files.len();
+            for length in [most + 1, self.bytes.len() - behind] {
+                let mut board = board.clone();
+                board.add(&self.bytes[behind..behind + length], &[1], &[READ]);
+                self.board(&board, (start, board.files.len()));
+            }
+            // A byte less than too long.
+            board.add(&self.bytes[behind..behind + most], &[1], &[READ]);
+            self.board(&board, (start, board.files.len()));
         }
     }
 
@@ -633,15 +854,15 @@ impl Writer {
             if number == refusal::TOO_MANY_INSTANCES {
                 continue;
             }
-            for _ in 0..30 {
+            for _ in 0..20 {
                 let case = generate::aimed_case(&mut self.random, number, Sizes::Small);
                 if case.file.len() <= MOST_OF_A_CASE / 2 {
                     self.store_check(&case.file);
                 }
             }
         }
-        for round in 0..150 {
-            let number = if round % 10 == 0 { round / 10 } else { 0 };
+        for round in 0..90 {
+            let number = if round % 6 == 0 { round / 6 } else { 0 };
             let case = self.met_case(number as u8);
             if case.file.len() > MOST_OF_A_CASE {
                 continue;
@@ -716,6 +937,7 @@ impl Writer {
                     fill: 0,
                     file: (place, length),
                     words: Vec::new(),
+                    lengths: NO_LENGTHS,
                     read: Vec::new(),
                     list_bytes: 0,
                     expected,
@@ -739,6 +961,22 @@ impl Writer {
     }
 }
 
+/// Whether a board is small enough for the vectors.
+fn is_small(board: &Board) -> bool {
+    let lists = [
+        &board.file_lengths,
+        &board.word_lengths,
+        &board.read_lengths,
+    ];
+    let lengths: usize = lists.iter().map(|list| list.len()).sum();
+    let answer = expected_of_board(board.isolate(isolate_board, &mut vec![0; board.room]));
+    let records = answer[2] as usize * RECORD_BYTES;
+    lists.iter().all(|list| list.len() <= MOST_LENGTHS)
+        && board.files.len() <= MOST_OF_FILES
+        && 8 * lengths + 9 * board.words.len() + records <= MOST_OF_A_CASE
+        && board.room <= MOST_LIST_BYTES
+}
+
 /// The vectors of a seed: always the same file.
 pub fn build(seed: u64) -> Vec<u8> {
     let mut writer = Writer {
@@ -748,13 +986,15 @@ pub fn build(seed: u64) -> Vec<u8> {
         whole: HashMap::new(),
         drafts: Vec::new(),
         outcomes: [0; HIGHEST_NUMBER as usize + 1],
+        boards: [0; refusal::BOARD_DOES_NOT_ADD_UP as usize + 1],
     };
+    writer.place(&large::B1.repeat(MOST_SLOTS));
     let b1 = Case {
         file: large::B1.to_vec(),
         attention_type: large::ATTENTION_TYPE,
         words: vec![1 << 63],
         read: vec![READ],
-        room: 16,
+        room: 32,
     };
     writer.store_isolation(&b1);
     writer.hand_made_calls(cases::isolations_of_files());
@@ -764,8 +1004,13 @@ pub fn build(seed: u64) -> Vec<u8> {
     writer.too_many_instances();
     writer.too_many_for_the_station();
     writer.checks_and_addresses();
+    writer.small_boards();
+    writer.hand_made_boards();
+    writer.refused_in_each_slot();
+    writer.boards_of_too_many();
     writer.long_file();
     writer.windows();
+    writer.windows_of_boards();
     writer.hand_made_calls(cases::isolations_of_bits());
     writer.finish()
 }

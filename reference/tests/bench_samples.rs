@@ -53,18 +53,18 @@ fn isolated(
 }
 
 /// The list with these records, in room for two.
-fn list(records: &[[u8; 8]]) -> Vec<u8> {
+fn list(records: &[[u8; 16]]) -> Vec<u8> {
     let mut list = records.concat();
-    list.resize(16, 0xEE);
+    list.resize(32, 0xEE);
     list
 }
 
 /// The value of an expression of constants, seen by its listed bits.
 fn value(expression: &str) -> u64 {
-    let mut list = [0; 64 * 8];
+    let mut list = [0; 64 * 16];
     let file = b1_with_expression(expression);
     let (records, _) = isolate(&file, 3, &[0], &[1], &mut list).unwrap();
-    let bits = list.chunks(8).take(records).map(|record| record[1]);
+    let bits = list.chunks(16).take(records).map(|record| record[5]);
     bits.fold(0, |word, bit| word | BIT_0 >> bit)
 }
 
@@ -84,33 +84,33 @@ fn b1_is_accepted() {
 
 #[test]
 fn b1_reading_of_bit_0() {
-    let expected = list(&[[3, 0, 0, 1, 0, 0, 0, 0]]);
-    assert_eq!(isolated(&b1(), 3, BIT_0, 1, 16), (Ok((1, 1)), expected));
+    let expected = list(&[[0, 0, 0, 1, 3, 0, 0, 1, 0, 0, 0, 0, 0, 0, 0, 0]]);
+    assert_eq!(isolated(&b1(), 3, BIT_0, 1, 32), (Ok((1, 1)), expected));
 }
 
 #[test]
 fn b1_reading_of_1() {
-    let expected = list(&[[3, 0x3F, 0, 1, 0, 0, 0, 0]]);
-    assert_eq!(isolated(&b1(), 3, 1, 1, 16), (Ok((1, 1)), expected));
+    let expected = list(&[[0, 0, 0, 1, 3, 0x3F, 0, 1, 0, 0, 0, 0, 0, 0, 0, 0]]);
+    assert_eq!(isolated(&b1(), 3, 1, 1, 32), (Ok((1, 1)), expected));
 }
 
 #[test]
 fn b1_reading_of_0() {
-    assert_eq!(isolated(&b1(), 3, 0, 1, 16), (Ok((0, 1)), list(&[])));
+    assert_eq!(isolated(&b1(), 3, 0, 1, 32), (Ok((0, 1)), list(&[])));
 }
 
 #[test]
 fn b1_other_attention_types() {
     assert_eq!(
-        isolated(&b1(), 1, BIT_0, 1, 16),
+        isolated(&b1(), 1, BIT_0, 1, 32),
         (refused(16, 0), list(&[]))
     );
     assert_eq!(
-        isolated(&b1(), 6, BIT_0, 1, 16),
+        isolated(&b1(), 6, BIT_0, 1, 32),
         (refused(15, 0), list(&[]))
     );
     assert_eq!(
-        isolated(&b1(), 0, BIT_0, 1, 16),
+        isolated(&b1(), 0, BIT_0, 1, 32),
         (refused(15, 0), list(&[]))
     );
 }
@@ -152,7 +152,7 @@ fn refused_files_are_refused_by_isolation_and_address() {
         b1_captured(0x40),
     ] {
         let refusal = check(&file).unwrap_err();
-        assert_eq!(isolated(&file, 9, 0, 9, 16), (Err(refusal), list(&[])));
+        assert_eq!(isolated(&file, 9, 0, 9, 32), (Err(refusal), list(&[])));
         assert_eq!(address(&file, 9, 9), Err(refusal));
     }
 }
@@ -163,14 +163,14 @@ fn captured_registers_are_readable() {
         let file = b1_captured(flags);
         assert_eq!(check(&file), refused(13, 45));
         assert_eq!(address(&file, 1, 0), refused(13, 45));
-        assert_eq!(isolated(&file, 3, 0, 1, 16), (refused(13, 45), list(&[])));
+        assert_eq!(isolated(&file, 3, 0, 1, 32), (refused(13, 45), list(&[])));
     }
-    let expected = list(&[[3, 0, 0, 1, 0, 0, 0, 0]]);
+    let expected = list(&[[0, 0, 0, 1, 3, 0, 0, 1, 0, 0, 0, 0, 0, 0, 0, 0]]);
     for flags in [0x80, 0xC0] {
         let file = b1_captured(flags);
         assert_eq!(address(&file, 1, 0), Ok((27, 4)));
         // It may be unread: no rule names it.
-        let answer = isolated(&file, 3, 0, 0, 16);
+        let answer = isolated(&file, 3, 0, 0, 32);
         assert_eq!(answer, (Ok((1, 1)), expected.clone()));
     }
 }
@@ -178,7 +178,7 @@ fn captured_registers_are_readable() {
 #[test]
 fn b1_unread() {
     assert_eq!(
-        isolated(&b1(), 3, BIT_0, 0, 16),
+        isolated(&b1(), 3, BIT_0, 0, 32),
         (refused(18, 46), list(&[]))
     );
 }
@@ -187,11 +187,11 @@ fn b1_unread() {
 fn b1_no_room() {
     assert_eq!(isolated(&b1(), 3, BIT_0, 1, 0), (refused(19, 1), vec![]));
     assert_eq!(
-        isolated(&b1(), 3, BIT_0, 1, 7),
-        (refused(19, 1), vec![0xEE; 7])
+        isolated(&b1(), 3, BIT_0, 1, 15),
+        (refused(19, 1), vec![0xEE; 15])
     );
-    let exact = vec![3, 0, 0, 1, 0, 0, 0, 0];
-    assert_eq!(isolated(&b1(), 3, BIT_0, 1, 8), (Ok((1, 1)), exact));
+    let exact = vec![0, 0, 0, 1, 3, 0, 0, 1, 0, 0, 0, 0, 0, 0, 0, 0];
+    assert_eq!(isolated(&b1(), 3, BIT_0, 1, 16), (Ok((1, 1)), exact));
 }
 
 #[test]

@@ -60,7 +60,7 @@ fn hand_made_cases() {
             attention_type: large::ATTENTION_TYPE,
             words,
             read,
-            room: 64 * 8,
+            room: 64 * 16,
         };
         compare_isolation(&case);
         compare_report(&mut random, &case);
@@ -127,7 +127,7 @@ fn large_cases() {
                 attention_type: large::ATTENTION_TYPE,
                 words: large::every_fourth(instances),
                 read: vec![1; instances],
-                room: instances * 64 * 8,
+                room: instances * 64 * 16,
             };
             compare_isolation(&case);
             compare_report(&mut random, &case);
@@ -244,7 +244,7 @@ fn graphs() {
             attention_type: large::ATTENTION_TYPE,
             words,
             read: vec![1; count],
-            room: 64 * 24 * 8,
+            room: 64 * 24 * 16,
         };
         compare_isolation(&case);
     }

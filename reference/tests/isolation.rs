@@ -43,6 +43,11 @@ fn isolated(
     (answer, list)
 }
 
+/// The record of a bit of a node's instance 0, for type 3: model/level 1, slot 0.
+fn record(node: u8, bit: u8) -> Vec<u8> {
+    vec![0, 0, 0, 1, 3, bit, 0, node, 0, 0, 0, 0, 0, 0, 0, 0]
+}
+
 fn refused<T>(number: u8, place: usize) -> Result<T, Refusal> {
     Err(Refusal { number, place })
 }
@@ -50,10 +55,10 @@ fn refused<T>(number: u8, place: usize) -> Result<T, Refusal> {
 #[test]
 fn the_bottom_of_a_diamond_is_listed_once() {
     let words = [BIT_0 | BIT_63, BIT_8, BIT_8, 1 << 60];
-    let mut expected = vec![3, 3, 0, 4, 0, 0, 0, 0];
+    let mut expected = record(4, 3);
     expected.extend([0xEE; 11]);
     assert_eq!(
-        isolated(&diamond(), &words, &[1; 4], 19),
+        isolated(&diamond(), &words, &[1; 4], 27),
         (Ok((1, 4)), expected)
     );
 }
@@ -61,31 +66,31 @@ fn the_bottom_of_a_diamond_is_listed_once() {
 #[test]
 fn one_side_of_a_diamond() {
     let words = [BIT_0, BIT_8, u64::MAX, BIT_63];
-    let expected = vec![3, 63, 0, 4, 0, 0, 0, 0];
+    let expected = record(4, 63);
     assert_eq!(
-        isolated(&diamond(), &words, &[1; 4], 8),
+        isolated(&diamond(), &words, &[1; 4], 16),
         (Ok((1, 3)), expected)
     );
     // Node 3 is not reached, so its register may be unread.
-    let (answer, _) = isolated(&diamond(), &words, &[1, 1, 0, 1], 8);
+    let (answer, _) = isolated(&diamond(), &words, &[1, 1, 0, 1], 16);
     assert_eq!(answer, Ok((1, 3)));
 }
 
 #[test]
 fn records_follow_the_file_and_then_the_bits() {
     let words = [u64::MAX, BIT_8 | BIT_0, BIT_63, 0xC000_0000_0000_0000];
-    let (answer, list) = isolated(&diamond(), &words, &[1; 4], 8 * 100);
+    let (answer, list) = isolated(&diamond(), &words, &[1; 4], 16 * 100);
     // Node 1: bits 1 to 62; node 4: 0 and 1; node 3: 63; node 2: 0.
     assert_eq!(answer, Ok((66, 4)));
-    let records: Vec<(u8, u8)> = list.chunks(8).take(66).map(|r| (r[3], r[1])).collect();
+    let records: Vec<(u8, u8)> = list.chunks(16).take(66).map(|r| (r[7], r[5])).collect();
     let mut expected: Vec<(u8, u8)> = (1..=62).map(|bit| (1, bit)).collect();
     expected.extend([(4, 0), (4, 1), (3, 63), (2, 0)]);
     assert_eq!(records, expected);
-    assert!(list[66 * 8..].iter().all(|&byte| byte == 0xEE));
+    assert!(list[66 * 16..].iter().all(|&byte| byte == 0xEE));
 
     assert_eq!(
-        isolated(&diamond(), &words, &[1; 4], 66 * 8 - 1),
-        (refused(19, 66), vec![0xEE; 66 * 8 - 1])
+        isolated(&diamond(), &words, &[1; 4], 66 * 16 - 1),
+        (refused(19, 66), vec![0xEE; 66 * 16 - 1])
     );
 }
 
@@ -130,37 +135,36 @@ fn a_child_without_the_rule_is_reached_and_silent() {
         00 01 01 01 00 00 01 01 03 01 00 00 01 00 00 00 02 00 \
         00 02 01 01 00 00 01 00 01 01 00 00 02 00";
     let file = hex::decode(&[START, REGISTERS, nodes, ROOTS].concat()).unwrap();
-    let expected = vec![3, 0, 0, 1, 0, 0, 0, 0];
+    let expected = record(1, 0);
     assert_eq!(
-        isolated(&file, &[BIT_0, BIT_0, 0, 0], &[1, 0, 0, 0], 8),
+        isolated(&file, &[BIT_0, BIT_0, 0, 0], &[1, 0, 0, 0], 16),
         (Ok((1, 2)), expected)
     );
     assert_eq!(
-        isolated(&file, &[BIT_0, BIT_0, 0, 0], &[1, 0, 0, 0], 7),
-        (refused(19, 1), vec![0xEE; 7])
+        isolated(&file, &[BIT_0, BIT_0, 0, 0], &[1, 0, 0, 0], 15),
+        (refused(19, 1), vec![0xEE; 15])
     );
 }
 
 #[test]
 fn the_silent_bottom_of_a_diamond() {
     // Node 3 stands before node 2.
-    let mut expected = vec![3, 8, 0, 3, 0, 0, 0, 0, 3, 8, 0, 2, 0, 0, 0, 0];
+    let expected = [record(3, 8), record(2, 8)].concat();
     let words = [BIT_0 | BIT_63, BIT_8, BIT_8, 0];
     assert_eq!(
-        isolated(&diamond(), &words, &[1; 4], 16),
-        (Ok((2, 4)), expected.clone())
+        isolated(&diamond(), &words, &[1; 4], 32),
+        (Ok((2, 4)), expected)
     );
     // With another bit of each.
-    expected.splice(8..8, [3, 9, 0, 3, 0, 0, 0, 0]);
-    expected.splice(16..16, [3, 7, 0, 2, 0, 0, 0, 0]);
+    let expected = [record(3, 8), record(3, 9), record(2, 7), record(2, 8)].concat();
     let words = [BIT_0 | BIT_63, BIT_8 | 1 << 56, BIT_8 | 1 << 54, 0];
     assert_eq!(
-        isolated(&diamond(), &words, &[1; 4], 32),
+        isolated(&diamond(), &words, &[1; 4], 64),
         (Ok((4, 4)), expected)
     );
     assert_eq!(
-        isolated(&diamond(), &words, &[1; 4], 31),
-        (refused(19, 4), vec![0xEE; 31])
+        isolated(&diamond(), &words, &[1; 4], 63),
+        (refused(19, 4), vec![0xEE; 63])
     );
     // Unread, it is refused whatever the room.
     assert_eq!(
@@ -173,15 +177,15 @@ fn the_silent_bottom_of_a_diamond() {
 fn the_silent_sides_of_a_diamond() {
     // Both of them; node 4 is not reached, and may be unread.
     let words = [u64::MAX, 0, 0, u64::MAX];
-    let (answer, list) = isolated(&diamond(), &words, &[1, 1, 1, 0], 64 * 8);
+    let (answer, list) = isolated(&diamond(), &words, &[1, 1, 1, 0], 64 * 16);
     assert_eq!(answer, Ok((64, 3)));
-    let bits = list.chunks(8).map(|record| (record[3], record[1]));
+    let bits = list.chunks(16).map(|record| (record[7], record[5]));
     assert!(bits.eq((0..64).map(|bit| (1, bit))));
     // One of them.
     let words = [BIT_0 | BIT_63, 0, BIT_8, BIT_63];
-    let expected = vec![3, 0, 0, 1, 0, 0, 0, 0, 3, 63, 0, 4, 0, 0, 0, 0];
+    let expected = [record(1, 0), record(4, 63)].concat();
     assert_eq!(
-        isolated(&diamond(), &words, &[1; 4], 16),
+        isolated(&diamond(), &words, &[1; 4], 32),
         (Ok((2, 4)), expected)
     );
 }
@@ -332,14 +336,16 @@ impl Model<'_> {
         if let Some(place) = reached.iter().find_map(|&instance| self.unread(instance)) {
             return refused(18, place);
         }
-        if ends.len() > list.len() / 8 {
+        if ends.len() > list.len() / 16 {
             return refused(19, ends.len());
         }
         for (record, &(instance, bit)) in ends.iter().enumerate() {
             let name = self.tree.node_instances[instance].name;
             let [high, low] = name.id.to_be_bytes();
-            let bytes = [self.attention_type, bit, high, low, name.instance, 0, 0, 0];
-            list[record * 8..record * 8 + 8].copy_from_slice(&bytes);
+            let mut bytes = self.tree.model.to_be_bytes().to_vec();
+            bytes.extend([self.attention_type, bit, high, low, name.instance]);
+            bytes.extend([0; 7]);
+            list[record * 16..record * 16 + 16].copy_from_slice(&bytes);
         }
         Ok((ends.len(), reached.len()))
     }

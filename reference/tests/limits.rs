@@ -237,11 +237,12 @@ fn the_longest_chain() {
         file.extend(ROOTS);
         let [high, low] = count.to_be_bytes();
         for isolate in [isolate, fast::isolate] {
-            let mut list = [7; 16];
+            let mut list = [7; 24];
             let answer = isolate(&file, 3, &[1 << 63], &[1], &mut list);
             assert_eq!(answer, Ok((1, usize::from(count))));
-            assert_eq!(list[..8], [3, 0, high, low, 0, 0, 0, 0]);
-            assert_eq!(list[8..], [7; 8]);
+            assert_eq!(list[..8], [0, 0, 0, 1, 3, 0, high, low]);
+            assert_eq!(list[8..16], [0; 8]);
+            assert_eq!(list[16..], [7; 8]);
         }
     }
 }
@@ -260,8 +261,8 @@ fn calls_to_measure_with(count: usize, without_child: usize, above_silent: usize
     let read = vec![1; count];
     let without_row = 64 * count - (count - 1);
     let [high, low] = (count as u16).to_be_bytes();
-    let of_last = |bit| [3, bit, high, low, 0, 0, 0, 0];
-    let of_1 = |bit| [3, bit, 0, 1, 0, 0, 0, 0];
+    let of_last = |bit| [0, 0, 0, 1, 3, bit, high, low, 0, 0, 0, 0, 0, 0, 0, 0];
+    let of_1 = |bit| [0, 0, 0, 1, 3, bit, 0, 1, 0, 0, 0, 0, 0, 0, 0, 0];
     for (file, words, records, first) in [
         (&row, &bit_0, 1, of_last(0)),
         (&last_bit_row, &bit_63, 1, of_last(63)),
@@ -275,12 +276,12 @@ fn calls_to_measure_with(count: usize, without_child: usize, above_silent: usize
         (&forward, &large::every_fourth(count), above_silent, of_1(0)),
     ] {
         for isolate in [isolate, fast::isolate] {
-            let mut list = vec![7; 8 * records + 5];
+            let mut list = vec![7; 16 * records + 5];
             let answer = isolate(file, 3, words, &read, &mut list);
             assert_eq!(answer, Ok((records, count)));
-            assert_eq!(list[..8], first);
-            assert_eq!(list[8 * records..], [7; 5]);
-            let answer = isolate(file, 3, words, &read, &mut list[..8 * records - 1]);
+            assert_eq!(list[..16], first);
+            assert_eq!(list[16 * records..], [7; 5]);
+            let answer = isolate(file, 3, words, &read, &mut list[..16 * records - 1]);
             assert_eq!(answer, refused(19, records));
         }
     }

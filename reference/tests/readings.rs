@@ -23,19 +23,21 @@ const UNFIT: Refusal = Refusal {
 };
 
 fn answer(readings_file: &[u8], attention_type: u8) -> Result<(usize, usize), Refusal> {
-    let mut list = [7; 24];
+    let mut list = [7; 40];
     let file = hex::decode(FILE).unwrap();
     let limits = Limits::PROGRAM;
     let answer =
         isolate_with_readings_file(&file, limits, attention_type, readings_file, &mut list);
     match answer {
         Ok((2, 1)) => {
-            assert_eq!(list[..8], [3, 0, 0, 1, 0, 0, 0, 0]);
-            assert_eq!(list[8..16], [3, 63, 0, 1, 0, 0, 0, 0]);
-            assert_eq!(list[16..], [7; 8]);
+            assert_eq!(list[..9], [0, 0, 0, 1, 3, 0, 0, 1, 0]);
+            assert_eq!(list[9..16], [0; 7]);
+            assert_eq!(list[16..25], [0, 0, 0, 1, 3, 63, 0, 1, 0]);
+            assert_eq!(list[25..32], [0; 7]);
+            assert_eq!(list[32..], [7; 8]);
         }
         Ok(_) => {}
-        Err(_) => assert_eq!(list, [7; 24]),
+        Err(_) => assert_eq!(list, [7; 40]),
     }
     answer
 }
@@ -133,9 +135,9 @@ fn the_type_is_refused_first() {
 fn lists_that_do_not_fit() {
     let file = hex::decode(FILE).unwrap();
     let answer = |words: &[u64], read: &[u8]| {
-        let mut list = [7; 24];
+        let mut list = [7; 40];
         let answer = isolate(&file, 3, words, read, &mut list);
-        assert!(answer.is_ok() || list == [7; 24]);
+        assert!(answer.is_ok() || list == [7; 40]);
         answer
     };
     assert_eq!(answer(&[0, 0, 0], &[1, 1, 1]), Ok((0, 1)));

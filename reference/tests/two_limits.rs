@@ -104,8 +104,8 @@ fn text_by_isolation(case: &Case, readings_file: &[u8]) -> String {
         Ok((records, steps)) => {
             let mut text = String::new();
             for record in list.chunks_exact(RECORD_BYTES).take(records) {
-                let node = u16::from(record[2]) << 8 | u16::from(record[3]);
-                let (kind, instance, bit) = (record[0], record[4], record[1]);
+                let node = u16::from(record[6]) << 8 | u16::from(record[7]);
+                let (kind, instance, bit) = (record[4], record[8], record[5]);
                 text += &format!("type {kind} node {node} inst {instance} bit {bit}\n");
             }
             text + &format!("steps {steps}\n")

@@ -4,10 +4,10 @@
 use std::collections::BTreeMap;
 
 use reference::vectors::{
-    self, address_of_any, expected_of_check, expected_of_pair, is_capture, Kind, Vector, EXPECTED,
-    MOST_BYTES, MOST_LIST_BYTES, MOST_WORDS,
+    self, address_of_any, expected_of_board, expected_of_check, expected_of_pair, is_capture, Kind,
+    Vector, EXPECTED, MOST_BYTES, MOST_LENGTHS, MOST_LIST_BYTES, MOST_WORDS,
 };
-use reference::{check, fast, isolate, Refusal};
+use reference::{check, fast, isolate, isolate_board, Refusal};
 
 type Isolate = fn(&[u8], u8, &[u64], &[u8], &mut [u8]) -> Result<(usize, usize), Refusal>;
 
@@ -41,6 +41,17 @@ fn assert_agrees(vector: &Vector) {
             assert_eq!(isolated(vector, isolate), expected);
             assert_eq!(isolated(vector, fast::isolate), expected);
         }
+        Kind::Board => {
+            let board = vector.board();
+            let mut expected = vector.records.to_vec();
+            expected.resize(vector.list_bytes, vector.fill);
+            for isolate_board in [isolate_board, fast::isolate_board] {
+                let mut list = vec![vector.fill; vector.list_bytes];
+                let answer = board.isolate(isolate_board, &mut list);
+                assert_eq!(expected_of_board(answer), vector.expected);
+                assert_eq!(list, expected);
+            }
+        }
     }
 }
 
@@ -50,9 +61,11 @@ fn vectors_agree_with_the_reference() {
         let bytes = vectors::build(seed);
         assert!(bytes.len() <= MOST_BYTES, "{} bytes", bytes.len());
         let vectors = vectors::read(&bytes).unwrap();
-        assert!(vectors.len() >= 3_000);
+        assert!(vectors.len() >= 2_700, "{}", vectors.len());
 
         let mut outcomes = [0; 20];
+        let mut boards = [0; 21];
+        let mut slots = [0; 16];
         let mut unreadable_captures = BTreeMap::new();
         let mut above_silent = BTreeMap::new();
         let mut only_listed = [0; 64];
@@ -62,8 +75,18 @@ fn vectors_agree_with_the_reference() {
             assert_agrees(vector);
             assert!(vector.words.len() <= MOST_WORDS && vector.read.len() <= MOST_WORDS);
             assert!(vector.list_bytes <= MOST_LIST_BYTES);
-            if vector.kind == Kind::Isolation {
-                outcomes[vector.expected[0] as usize] += 1;
+            match vector.kind {
+                Kind::Isolation => outcomes[vector.expected[0] as usize] += 1,
+                Kind::Board => {
+                    let [number, _, _, _, slot, ..] = vector.expected;
+                    boards[number as usize] += 1;
+                    slots[slot as usize] += usize::from((1..=18).contains(&number));
+                    let lists = vector.lengths.each_ref().map(Vec::len);
+                    assert!(lists.iter().all(|&lengths| lengths <= MOST_LENGTHS));
+                    let numbers = vector.words.len() + lists.iter().sum::<usize>();
+                    assert!(numbers <= MOST_WORDS);
+                }
+                _ => {}
             }
             if vector.expected[0] == 13 && is_capture(vector.file, vector.expected[1] as usize) {
                 *unreadable_captures.entry(vector.kind).or_insert(0) += 1;
@@ -71,7 +94,7 @@ fn vectors_agree_with_the_reference() {
             if vector.bits_above_silent() > 0 {
                 *above_silent.entry(vector.expected[0]).or_insert(0) += 1;
             }
-            if let ([0, 0, 1, steps @ 1..=2, ..], [_, bit, 0, 1, 0, ..]) =
+            if let ([0, 0, 1, steps @ 1..=2, ..], [_, _, _, _, _, bit, 0, 1, 0, ..]) =
                 (vector.expected, vector.records)
             {
                 let only = match steps {
@@ -88,6 +111,9 @@ fn vectors_agree_with_the_reference() {
         assert!(only_listed.iter().all(is_there), "{only_listed:?}");
         assert!(only_followed.iter().all(is_there), "{only_followed:?}");
         assert!(outcomes.iter().all(|&count| count >= 40), "{outcomes:?}");
+        assert!(boards.iter().all(|&count| count >= 5), "{boards:?}");
+        assert!(boards[0] >= 30 && boards[20] >= 15, "{boards:?}");
+        assert!(slots.iter().all(|&count| count > 0), "{slots:?}");
         for kind in [Kind::Check, Kind::Address, Kind::Isolation] {
             let captures = unreadable_captures.get(&kind);
             assert!(captures >= Some(&12), "{unreadable_captures:?}");

@@ -1,5 +1,6 @@
-// The calls of the library for C and Rust. Each takes any input. The checker, the address query and isolation return the number of their refusal, 0 where there is none,
+// The calls of the library for C and Rust. Each takes any input. The checker, the address query, isolation and the board call return the number of their refusal, 0 where there is none,
 // and put their whole answer to a lent list of numbers; a list that is too short for it keeps what it has.
+use board::board;
 use format::Address;
 use format::Checked;
 use format::number;
@@ -14,9 +15,10 @@ ghost use mathlib.Core.Path.{_≡_};
 ghost use Rattle.limits.specs.Limits.{libraryLimits};
 ghost use Rattle.format.specs.Verdict.{check, address};
 ghost use Rattle.isolation.specs.Outcome.{isolate};
+ghost use Rattle.board.specs.Board.{boardOf, board};
 ghost use Rattle.report.specs.Text.{Put};
 ghost use Rattle.report.specs.Report.{report};
-ghost use Rattle.abi.specs.Values.{answered, checkList, addressList, isolateList};
+ghost use Rattle.abi.specs.Values.{answered, checkList, addressList, isolateList, boardList};
 
 // Four numbers at the front of a list that has room for them.
 fn put_four(out: &mut [u64], a: u64, b: u64, c: u64, d: u64)
@@ -29,6 +31,20 @@ fn put_four(out: &mut [u64], a: u64, b: u64, c: u64, d: u64)
     out[1] = b;
     out[2] = c;
     out[3] = d;
+}
+
+// Five numbers at the front of a list that has room for them.
+fn put_five(out: &mut [u64], a: u64, b: u64, c: u64, d: u64, e: u64)
+    ensures { λ r. ⌜ now (out .exit) ≡ answered (a ∷ b ∷ c ∷ d ∷ e ∷ []) (now (out .entry)) ⌝ }
+{
+    if out.len() < 5 {
+        return;
+    }
+    out[0] = a;
+    out[1] = b;
+    out[2] = c;
+    out[3] = d;
+    out[4] = e;
 }
 
 // Eight numbers at the front of a list that has room for them.
@@ -127,6 +143,52 @@ pub extern "C" fn lutemarble_isolate(
             let refused = number(kind) as u64;
             put_four(out, refused, refusal.place as u64, 0, 0);
             refused
+        }
+    }
+}
+
+// Isolation of a board: number, place, records and steps of all slots, and the slot that is refused. The records go to the front of the lent list, in slot order; a refusal leaves it as it is.
+#[no_mangle]
+pub extern "C" fn lutemarble_board(
+    files: &[u8],
+    file_lengths: &[u64],
+    attention: u8,
+    words: &[u64],
+    word_lengths: &[u64],
+    read: &[u8],
+    read_lengths: &[u64],
+    list: &mut [u8],
+    out: &mut [u64],
+) -> u64
+    ensures number { λ r. ⌜ r
+        ≡ board libraryLimits attention (boardOf (now (files .entry)) (now («file_lengths» .entry)) (now (words .entry)) (now («word_lengths» .entry)) (now (read .entry)) (now («read_lengths» .entry))) (now (list .entry)) .answer .number ⌝ }
+    ensures list { λ r. ⌜ now (list .exit)
+        ≡ board libraryLimits attention (boardOf (now (files .entry)) (now («file_lengths» .entry)) (now (words .entry)) (now («word_lengths» .entry)) (now (read .entry)) (now («read_lengths» .entry))) (now (list .entry)) .answer .list ⌝ }
+    ensures answer { λ r. ⌜ now (out .exit)
+        ≡ answered (boardList (board libraryLimits attention (boardOf (now (files .entry)) (now («file_lengths» .entry)) (now (words .entry)) (now («word_lengths» .entry)) (now (read .entry)) (now («read_lengths» .entry))) (now (list .entry)))) (now (out .entry)) ⌝ }
+{
+    let b = board(
+        files,
+        file_lengths,
+        attention,
+        words,
+        word_lengths,
+        read,
+        read_lengths,
+        list,
+    );
+    let slot = b.slot as u64;
+    let a = b.answer;
+    match a {
+        Isolated::Done(i) => {
+            put_five(out, 0, 0, i.records as u64, i.steps as u64, slot);
+            0
+        }
+        Isolated::Refused(r) => {
+            let kind = r.kind;
+            let n = number(kind) as u64;
+            put_five(out, n, r.place as u64, 0, 0, slot);
+            n
         }
     }
 }

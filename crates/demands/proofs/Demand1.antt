@@ -35,12 +35,15 @@ module _ (of : LimitSet) (file : List ℕ) (attention : ℕ) (words read list : 
   success-length : (s : Succeeds (limitsOf of) file attention words read list) → length (isolate (limitsOf of) file attention words read list .list) ≡ length list
   unfolding recordSize chipGraph
   success-length s =
-      let ls = listing (chipGraph (s .chip) attention words read) (nodePosition (s .chip) (s .root .id) (s .root .number)) in
-      let rs = recordsOf (s .chip) attention ls in
-      let fits : length ls ≤ length list / 8 = leb-true _ _ (s .room) in
-      let eight : length rs ≡ length ls * 8 = listing-length (s .chip) attention (chipGraph (s .chip) attention words read) (nodePosition (s .chip) (s .root .id) (s .root .number)) refl in
-      let is : isolate (limitsOf of) file attention words read list .list ≡ rs ++ drop (length ls * 8) list = ap (λ o. o .list) (succeeds-in (limitsOf of) file attention words read list s) in
-      ap length is ∙ length-append rs (drop (length ls * 8) list) ∙ omega (arith, length-drop (length ls * 8) list)
+      let c = s .finds .chip in
+      let g = chipGraph c attention words read in
+      let p = nodePosition c (s .finds .root .id) (s .finds .root .number) in
+      let ls = listing g p in
+      let rs = recordsOf c 0 attention ls in
+      let fits : length ls ≤ length list / 16 = leb-true _ _ (s .room) in
+      let whole : length rs ≡ length ls * 16 = listing-length c 0 attention g p refl in
+      let is : isolate (limitsOf of) file attention words read list .list ≡ rs ++ drop (length ls * 16) list = ap (λ o. o .list) (succeeds-in (limitsOf of) file attention words read list s) in
+      ap length is ∙ length-append rs (drop (length ls * 16) list) ∙ omega (arith, length-drop (length ls * 16) list)
 
   pub demand1 : Demand1 of file attention words read list
   demand1 =

@@ -98,20 +98,21 @@ module _ (of : LimitSet) (file : List ℕ) (bytes : Bytes file) (attention : ℕ
   possible-out : Succeeds (limitsOf of) file attention words read list → Possible of file attention words read list
   unfolding recordSize chipGraph
   possible-out s =
-      let c = s .chip in
-      let a = accepted-out of file bytes (s .accepted) in
+      let f = s .finds in
+      let c = f .chip in
+      let a = accepted-out of file bytes (f .accepted) in
       let g = chipGraph c attention words read in
       let sound = chip-sound c (a .meets .present) attention words read in
-      let r = root-out c attention (s .rooted) in
-      let p = nodePosition c (s .root .id) (s .root .number) in
-      let l : length (listing g p) ≤ length list / 8 = leb-true _ _ (s .room) in
+      let r = root-out c attention (f .rooted) in
+      let p = nodePosition c (f .root .id) (f .root .number) in
+      let l : length (listing g p) ≤ length list / 16 = leb-true _ _ (s .room) in
       record {
         chip = c;
         accepted = a;
         root = p;
         rooted = r;
-        fit = fit-out c words read (s .fit);
-        valued = valued-out c read attention g sound p refl (a .meets .unique) (s .valued);
+        fit = fit-out c words read (f .fit);
+        valued = valued-out c read attention g sound p refl (a .meets .unique) (f .valued);
         bits = listing g p;
         named = listing-named g sound p (root-below c (a .meets) attention p r);
         room = omega arith;
@@ -142,32 +143,34 @@ module _ (of : LimitSet) (file : List ℕ) (bytes : Bytes file) (attention : ℕ
         let c = p .chip in
         let m = p .accepted .meets in
         let q = nodePosition c (p .rooted .root .id) (p .rooted .root .number) in
-        let l : length (listing graph (p .root)) ≤ length list / 8 = omega (arith, ap length bits-are, p .room) in
+        let l : length (listing graph (p .root)) ≤ length list / 16 = omega (arith, ap length bits-are, p .room) in
         record {
-          chip = c;
-          end = length file;
-          root = p .rooted .root;
-          roots = [];
-          accepted = accepted-in of file bytes (p .accepted);
-          known = root-known c m attention (p .root) (p .rooted);
-          rooted = root-in c m attention (p .root) (p .rooted);
-          fit = fit-in c words read (p .fit);
-          valued = subst (λ x. reachedUnread c attention read graph x ≡ []) (p .rooted .means) (valued-in c read attention graph sound (p .root) refl (p .valued));
-          room = subst (λ x. leb (length (listing graph x)) (length list / 8) ≡ true) (p .rooted .means) (le-leb _ _ l);
+          finds = record {
+            chip = c;
+            end = length file;
+            root = p .rooted .root;
+            roots = [];
+            accepted = accepted-in of file bytes (p .accepted);
+            known = root-known c m attention (p .root) (p .rooted);
+            rooted = root-in c m attention (p .root) (p .rooted);
+            fit = fit-in c words read (p .fit);
+            valued = subst (λ x. reachedUnread c attention read graph x ≡ []) (p .rooted .means) (valued-in c read attention graph sound (p .root) refl (p .valued));
+          };
+          room = subst (λ x. leb (length (listing graph x)) (length list / 16) ≡ true) (p .rooted .means) (le-leb _ _ l);
         }
 
     outcome-is : isolate (limitsOf of) file attention words read list
-        ≡ doneOutcome (length (p .bits)) (reachedCount graph (p .root)) (recordsOf (p .chip) attention (p .bits) ++ drop (length (p .bits) * 8) list)
+        ≡ doneOutcome (length (p .bits)) (reachedCount graph (p .root)) (recordsOf (p .chip) 0 attention (p .bits) ++ drop (length (p .bits) * 16) list)
     unfolding possible-in recordSize
     outcome-is =
         subst
         (λ ls. isolate (limitsOf of) file attention words read list
-        ≡ doneOutcome (length ls) (reachedCount graph (p .root)) (recordsOf (p .chip) attention ls ++ drop (length ls * 8) list))
+        ≡ doneOutcome (length ls) (reachedCount graph (p .root)) (recordsOf (p .chip) 0 attention ls ++ drop (length ls * 16) list))
         (sym bits-are)
         (subst
         (λ x. isolate (limitsOf of) file attention words read list
         ≡ doneOutcome (length (listing graph x)) (reachedCount graph x)
-        (recordsOf (p .chip) attention (listing graph x) ++ drop (length (listing graph x) * 8) list))
+        (recordsOf (p .chip) 0 attention (listing graph x) ++ drop (length (listing graph x) * 16) list))
         (sym (p .rooted .means)) (succeeds-in (limitsOf of) file attention words read list possible-in))
 
     answer : Answer of file attention words read list p (isolate (limitsOf of) file attention words read list)

@@ -10,3 +10,5 @@ pub mod Readings
 pub mod Captures
 pub mod AcyclicLaws
 pub mod SilentChildren
+pub mod SlotLaws
+pub mod Boards

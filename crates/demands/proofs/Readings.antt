@@ -11,9 +11,8 @@ use Rattle.limits.specs.declared.LimitSet.{LimitSet}
 use Rattle.limits.specs.Limits.{Limits, levels, limitsOf}
 use Rattle.numbers.specs.Bits.{bitOf}
 use Rattle.numbers.specs.BigEndian.{Bytes}
-use Rattle.graph.specs.Chains.{Graph, Sound, Link, below, reachedFrom, reachedCount}
+use Rattle.graph.specs.Chains.{Graph, Sound, below, reachedFrom, reachedCount}
 use Rattle.graph.proofs.ChainsLaws.{reached-by-chains}
-use Rattle.format.specs.Fields.{knownAttention}
 use Rattle.format.specs.Finding.{rootFor}
 use Rattle.format.specs.Lookup.{at, gathered, NodeEntry, nodeEntries, nodePosition}
 use Rattle.format.specs.Meaning.{valueWithin}
@@ -27,11 +26,12 @@ use Rattle.format.proofs.GatheredLaws.{gathered-one, gathered-same}
 use Rattle.format.proofs.MeaningLaws.{value-same}
 use Rattle.format.proofs.PositionsLaws.{at-inside, some-one}
 use Rattle.isolation.specs.ChipGraph.{ruleUnread, isNone, ruleActive, entryActive, chipGraph}
-use Rattle.isolation.specs.Outcome.{Outcome, refusedOutcome, doneOutcome, entryUnread, reachedUnread, listOutcome, allRead, fromRoot, isolateIn, isolate}
-use Rattle.isolation.specs.Readings.{readingsFit, hasValue, wordFor, unreadFaults}
-use Rattle.listing.specs.Records.{recordSize, listing, recordsOf}
+use Rattle.isolation.specs.Outcome.{refusedOutcome, doneOutcome, entryUnread, reachedUnread, Findings, stopped, found, foundFrom, allRead, fromRoot, findIn, find, written, inList, isolate}
+use Rattle.isolation.specs.Readings.{hasValue, wordFor, unreadFaults}
+use Rattle.listing.specs.Records.{recordSize, listing}
 use Rattle.isolation.proofs.ChipLaws.{chip-sound}
-use Rattle.isolation.proofs.GraphsLaws.{Agree, every-below, reached-below, reached-same, count-reached-same, listing-same, listing-length}
+use Rattle.isolation.proofs.GraphsLaws.{Agree, every-below, reached-below, reached-same, count-reached-same, listing-same}
+use Rattle.isolation.proofs.OutcomeLaws.{found-length}
 use Rattle.demands.specs.Rows.{In}
 use Rattle.demands.specs.Demand2.{Accepted}
 use Rattle.demands.specs.Demand3.{RootAt, readByte}
@@ -62,11 +62,11 @@ module _ (c : Chip) (words read words′ read′ : List ℕ) (r : Rule)
           (in-every _ (namedBy (r .expression)) (λ n i. agree n i .value (rule-valued c read r e n i))))
       go (f ∷ fs) e = refl
 
--- What is written is settled by the listing and the count.
-written-by : (c : Chip) (attention root : ℕ) (list : List ℕ) (g h : Graph) → listing g root ≡ listing h root → reachedCount g root ≡ reachedCount h root
-    → listOutcome c attention g root list ≡ listOutcome c attention h root list
-unfolding listOutcome
-written-by c attention root list g h e d = rw (e, d)
+-- What is found is settled by the listing and the count.
+found-by : (c : Chip) (slot attention root : ℕ) (g h : Graph) → listing g root ≡ listing h root → reachedCount g root ≡ reachedCount h root
+    → foundFrom c slot attention g root ≡ foundFrom c slot attention h root
+unfolding foundFrom
+found-by c slot attention root g h e d = rw (e, d)
 
 -- Two graphs of one chip
 
@@ -151,34 +151,39 @@ module _ {limits : Limits} (c : Chip) (m : Meets limits c) (attention : ℕ) (wo
           ∙ sym (gathered-one (entryUnread c attention read′) (x .0)))
       go i false t = refl
 
-  written-same : (list : List ℕ) → listOutcome c attention g root list ≡ listOutcome c attention h root list
-  written-same list =
-      written-by c attention root list g h (listing-same g h g-sound h-sound root graphs-agree) (count-reached-same g h g-sound h-sound root graphs-agree)
+  found-same : (slot : ℕ) → foundFrom c slot attention g root ≡ foundFrom c slot attention h root
+  found-same slot =
+      found-by c slot attention root g h (listing-same g h g-sound h-sound root graphs-agree) (count-reached-same g h g-sound h-sound root graphs-agree)
 
-  outcome-same : (list : List ℕ)
-      → allRead (reachedUnread c attention read g root) list (listOutcome c attention g root list)
-      ≡ allRead (reachedUnread c attention read′ h root) list (listOutcome c attention h root list)
-  outcome-same list = rw (reached-unread, written-same list)
+  findings-same : (slot : ℕ)
+      → allRead (reachedUnread c attention read g root) (foundFrom c slot attention g root) ≡ allRead (reachedUnread c attention read′ h root) (foundFrom c slot attention h root)
+  findings-same slot = rw (reached-unread, found-same slot)
 
--- The whole answer
+-- What is found, and the whole answer
+
+finds-same : (of : LimitSet) (file : List ℕ) → Bytes file → (attention : ℕ) (words read words′ read′ : List ℕ)
+    → ((c : Chip) → Accepted of file c → Alike c attention words read words′ read′)
+    → (slot : ℕ) → find (limitsOf of) slot file attention words read ≡ find (limitsOf of) slot file attention words′ read′
+unfolding find findIn fromRoot
+finds-same of file bytes attention words read words′ read′ same slot = go (verdict (limitsOf of) file) refl
+  where
+    rooted : (c : Chip) → Meets (limitsOf of) c → Alike c attention words read words′ read′ → (ts : List Root) → rootFor attention c ≡ ts
+        → fromRoot c slot attention words read ts ≡ fromRoot c slot attention words′ read′ ts
+    rooted c m a [] e = refl
+    rooted c m a (t ∷ ts) e =
+        rw (fit-in c words read (a .first), fit-in c words′ read′ (a .second))
+        (findings-same c m attention words read words′ read′ a (nodePosition c (t .id) (t .number)) (root-out c attention e) slot)
+
+    go : (r : Parsed Chip) → verdict (limitsOf of) file ≡ r → findIn slot attention words read r ≡ findIn slot attention words′ read′ r
+    go (refused n p) e = refl
+    go (done c end) e =
+        let a = accepted-out of file bytes e in rw (rooted c (a .meets) (same c a) (rootFor attention c) refl)
 
 answers-same : (of : LimitSet) (file : List ℕ) → Bytes file → (attention : ℕ) (words read words′ read′ : List ℕ)
     → ((c : Chip) → Accepted of file c → Alike c attention words read words′ read′)
     → (list : List ℕ) → isolate (limitsOf of) file attention words read list ≡ isolate (limitsOf of) file attention words′ read′ list
-unfolding isolate isolateIn fromRoot
-answers-same of file bytes attention words read words′ read′ same list = go (verdict (limitsOf of) file) refl
-  where
-    rooted : (c : Chip) → Meets (limitsOf of) c → Alike c attention words read words′ read′ → (ts : List Root) → rootFor attention c ≡ ts
-        → fromRoot c attention words read list ts ≡ fromRoot c attention words′ read′ list ts
-    rooted c m a [] e = refl
-    rooted c m a (t ∷ ts) e =
-        rw (fit-in c words read (a .first), fit-in c words′ read′ (a .second))
-        (outcome-same c m attention words read words′ read′ a (nodePosition c (t .id) (t .number)) (root-out c attention e) list)
-
-    go : (r : Parsed Chip) → verdict (limitsOf of) file ≡ r → isolateIn attention words read list r ≡ isolateIn attention words′ read′ list r
-    go (refused n p) e = refl
-    go (done c end) e =
-        let a = accepted-out of file bytes e in rw (rooted c (a .meets) (same c a) (rootFor attention c) refl)
+unfolding isolate
+answers-same of file bytes attention words read words′ read′ same list = ap (inList list) (finds-same of file bytes attention words read words′ read′ same 0)
 
 -- Two lists of one length
 
@@ -186,69 +191,31 @@ module _ (list list′ : List ℕ) (size : length list ≡ length list′) where
   refused-answer : (n p : ℕ) → SameAnswer (refusedOutcome n p list) (refusedOutcome n p list′)
   refused-answer n p = record { number = refl; place = refl; records = refl; steps = refl; written = refl }
 
-  written-answer : (c : Chip) (attention : ℕ) (g : Graph) (root : ℕ) → g .size ≡ length (nodeEntries c)
-      → SameAnswer (listOutcome c attention g root list) (listOutcome c attention g root list′)
-  unfolding listOutcome recordSize
-  written-answer c attention g root e = rw (← size) (go (leb (length (listing g root)) (length list / 8)))
+  written-answer : (count : ℕ) (rs : List ℕ) (steps : ℕ) → length rs ≡ count * 16 → SameAnswer (written count rs steps list) (written count rs steps list′)
+  unfolding written recordSize
+  written-answer count rs steps e = rw (← size) (go (leb count (length list / 16)))
     where
-      ls : List Link
-      ls = listing g root
-
-      rs : List ℕ
-      rs = recordsOf c attention ls
-
       go : (t : Bool) → SameAnswer
-          (cond t (doneOutcome (length ls) (reachedCount g root) (rs ++ drop (length ls * 8) list)) (refusedOutcome 19 (length ls) list))
-          (cond t (doneOutcome (length ls) (reachedCount g root) (rs ++ drop (length ls * 8) list′)) (refusedOutcome 19 (length ls) list′))
+          (cond t (doneOutcome count steps (rs ++ drop (count * 16) list)) (refusedOutcome 19 count list))
+          (cond t (doneOutcome count steps (rs ++ drop (count * 16) list′)) (refusedOutcome 19 count list′))
       go true =
           record {
             number = refl;
             place = refl;
             records = refl;
             steps = refl;
-            written = take-at rs (drop (length ls * 8) list) (length ls * 8) (listing-length c attention g root e)
-                ∙ sym (take-at rs (drop (length ls * 8) list′) (length ls * 8) (listing-length c attention g root e));
+            written = take-at rs (drop (count * 16) list) (count * 16) e ∙ sym (take-at rs (drop (count * 16) list′) (count * 16) e);
           }
-      go false = refused-answer 19 (length ls)
-
-  read-answer : (fs : List Fault) (o o′ : Outcome) → SameAnswer o o′ → SameAnswer (allRead fs list o) (allRead fs list′ o′)
-  unfolding allRead
-  read-answer [] o o′ s = s
-  read-answer (f ∷ fs) o o′ s = refused-answer (f .number) (f .place)
-
-  root-answer : (c : Chip) (attention : ℕ) (words read : List ℕ) (ts : List Root)
-      → SameAnswer (fromRoot c attention words read list ts) (fromRoot c attention words read list′ ts)
-  unfolding fromRoot chipGraph
-  root-answer c attention words read [] = refused-answer 16 0
-  root-answer c attention words read (t ∷ ts) = go (readingsFit c words read)
-    where
-      go : (b : Bool) → SameAnswer
-          (cond b
-          (allRead (reachedUnread c attention read (chipGraph c attention words read) (nodePosition c (t .id) (t .number))) list
-          (listOutcome c attention (chipGraph c attention words read) (nodePosition c (t .id) (t .number)) list))
-          (refusedOutcome 17 0 list))
-          (cond b
-          (allRead (reachedUnread c attention read (chipGraph c attention words read) (nodePosition c (t .id) (t .number))) list′
-          (listOutcome c attention (chipGraph c attention words read) (nodePosition c (t .id) (t .number)) list′))
-          (refusedOutcome 17 0 list′))
-      go true =
-          read-answer _ _ _ (written-answer c attention (chipGraph c attention words read) (nodePosition c (t .id) (t .number)) refl)
-      go false = refused-answer 17 0
+      go false = refused-answer 19 count
 
   room-answer : (of : LimitSet) (file : List ℕ) (attention : ℕ) (words read : List ℕ)
       → SameAnswer (isolate (limitsOf of) file attention words read list) (isolate (limitsOf of) file attention words read list′)
-  unfolding isolate isolateIn
-  room-answer of file attention words read = go (verdict (limitsOf of) file)
+  unfolding isolate inList recordSize
+  room-answer of file attention words read = go (find (limitsOf of) 0 file attention words read) refl
     where
-      known : (c : Chip) (b : Bool) → SameAnswer
-          (cond b (fromRoot c attention words read list (rootFor attention c)) (refusedOutcome 15 0 list))
-          (cond b (fromRoot c attention words read list′ (rootFor attention c)) (refusedOutcome 15 0 list′))
-      known c true = root-answer c attention words read (rootFor attention c)
-      known c false = refused-answer 15 0
-
-      go : (r : Parsed Chip) → SameAnswer (isolateIn attention words read list r) (isolateIn attention words read list′ r)
-      go (refused n p) = refused-answer n p
-      go (done c end) = known c (knownAttention attention)
+      go : (f : Findings) → find (limitsOf of) 0 file attention words read ≡ f → SameAnswer (inList list f) (inList list′ f)
+      go (stopped n p) e = refused-answer n p
+      go (found count rs steps) e = written-answer count rs steps (found-length of 0 file attention words read e)
 
 pub readings-settle : (of : LimitSet) (file : List ℕ) → Bytes file → (attention : ℕ) (words read words′ read′ : List ℕ) → ReadingsSettle of file attention words read words′ read′
 unfolding ReadingsSettle

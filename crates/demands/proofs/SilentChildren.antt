@@ -19,7 +19,7 @@ use Rattle.format.specs.References.{Fault}
 use Rattle.format.specs.Rules.{Meets}
 use Rattle.format.specs.Tree.{Chip}
 use Rattle.isolation.specs.ChipGraph.{chipGraph}
-use Rattle.isolation.specs.Outcome.{refusedOutcome, isolate, isolateIn, fromRoot, allRead, reachedUnread}
+use Rattle.isolation.specs.Outcome.{refusedOutcome, reachedUnread, allRead, fromRoot, findIn, find, inList, isolate}
 use Rattle.isolation.proofs.ChipLaws.{chip-sound}
 use Rattle.demands.specs.Active.{ActiveBit, ChildOf}
 use Rattle.demands.specs.Demand2.{Accepted}
@@ -108,7 +108,7 @@ module _ (of : LimitSet) (file : List ℕ) (bytes : Bytes file) (attention : ℕ
 
     first-unread : (f : Fault) (fs : List Fault) → reachedUnread c attention read graph root ≡ f ∷ fs
         → isolate (limitsOf of) file attention words read list ≡ refusedOutcome (f .number) (f .place) list
-    unfolding isolate isolateIn fromRoot allRead
+    unfolding isolate inList find findIn fromRoot allRead
     first-unread f fs e =
         let m = accepted .meets in
         rw (accepted-in of file bytes accepted, root-known c m attention root rooted, root-in c m attention root rooted, fit-in c words read fit, ← rooted .means, e)

@@ -80,13 +80,13 @@ module _ (of : LimitSet) (file : List ℕ) (attention : ℕ) (words read list : 
     pub valued : (n : Named) → ReachedName chip attention (chipGraph chip attention words read) root n → readByte chip read n ≡ 1
     pub bits : List Link
     pub named : NamedBits (chipGraph chip attention words read) root bits
-    -- "The list has room when it has a whole record's place for every bit that demand 3 names." A record has 8 bytes.
-    pub room : length bits * 8 ≤ length list
+    -- "The list has room when it has a whole record's place for every bit that demand 3 names." Document 02 (vi): a record has 16 bytes.
+    pub room : length bits * 16 ≤ length list
 
   -- What the answer is then.
   pub record Answer (p : Possible) (o : Outcome) : Type 0 where
-    -- "It holds these bits when its first places are their records and every byte after those is as it was lent."
-    pub holds : o .list ≡ recordsOf (p .chip) attention (p .bits) ++ drop (length (p .bits) * 8) list
+    -- "It holds these bits when its first places are their records and every byte after those is as it was lent." Document 02 (vi): "The single-chip call writes slot 0."
+    pub holds : o .list ≡ recordsOf (p .chip) 0 attention (p .bits) ++ drop (length (p .bits) * 16) list
     -- "The reported record count is the number of these bits."
     pub records : o .records ≡ length (p .bits)
     -- "The reported step count equals the number of different node instances that unbroken chains from that root reach, the root's own always counted."

@@ -7,3 +7,4 @@ pub mod Active
 pub mod Readings
 pub mod Captures
 pub mod SilentChildren
+pub mod Boards

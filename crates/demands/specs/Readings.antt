@@ -31,7 +31,7 @@ pub record SameAnswer (o p : Outcome) : Type 0 where
   pub place : o .place ≡ p .place
   pub records : o .records ≡ p .records
   pub steps : o .steps ≡ p .steps
-  pub written : take (o .records * 8) (o .list) ≡ take (p .records * 8) (p .list)
+  pub written : take (o .records * 16) (o .list) ≡ take (p .records * 16) (p .list)
 
 -- "Give the same whole answer with the same file, type and room": with one list all is the same, and with two of one length all that is not lent.
 pub record Settled (of : LimitSet) (file : List ℕ) (attention : ℕ) (words read words′ read′ : List ℕ) : Type 0 where

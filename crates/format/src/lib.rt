@@ -32,6 +32,7 @@ pub enum Kind {
     ReadingsUnfit,
     RegisterUnread,
     NoRoom,
+    BoardUnfit,
     TableTooShort,
 }
 
@@ -87,6 +88,7 @@ pub fn number(k: Kind) -> u8
         Kind::ReadingsUnfit => 17,
         Kind::RegisterUnread => 18,
         Kind::NoRoom => 19,
+        Kind::BoardUnfit => 20,
         Kind::TableTooShort => 43,
     }
 }

@@ -1,10 +1,10 @@
--- The answer of isolation in the code's own terms: what the tables, the walk and the list say of an accepted file decides it.
-use Prim.Native.Nat.{ℕ, _*_, _^_, _≤_, _<_}
-use mathlib.Core.Bool.{Bool, true, false, cond}
+-- What isolation finds, in the code's own terms: what the tables, the walk and the rows say of an accepted file decides it.
+use Prim.Native.Nat.{ℕ, _^_, _≤_, _<_}
+use mathlib.Core.Bool.{true, false}
 use mathlib.Core.List.{List, [], _∷_, _++_, map}
-use mathlib.Core.Path.{_≡_, refl, sym, _∙_, ap, subst}
+use mathlib.Core.Path.{_≡_, sym, _∙_, ap, subst}
 use native.Mathlib.Omega.{arith}
-use lib.ListN.{length, getD, drop}
+use lib.ListN.{length, getD}
 use Rattle.limits.specs.Limits.{libraryLimits, limitsOf}
 use Rattle.limits.specs.declared.LimitSet.{LimitSet}
 use Rattle.numbers.specs.BigEndian.{Bytes}
@@ -25,18 +25,15 @@ use Rattle.tables.specs.Keys.{registerKeys, nodeKeys}
 use Rattle.reader.specs.Columns.{childColumn}
 use Rattle.tables.proofs.ColumnLaws.{column-at}
 use Rattle.tables.proofs.KeysLaws.{nodes-fit}
-use Rattle.listing.specs.declared.Listing
-use Rattle.listing.specs.declared.Listing.{Listing}
 use Rattle.format.specs.Finding.{rootFor}
 use Rattle.isolation.specs.ChipGraph.{chipGraph}
-use Rattle.isolation.specs.Outcome as outcome
-use Rattle.isolation.specs.Outcome.{refusedOutcome, doneOutcome, reachedUnread, allRead, fromRoot, isolateIn, isolate}
+use Rattle.isolation.specs.Outcome.{reachedUnread, stopped, found, foundFrom, allRead, fromRoot, findIn, find}
 use Rattle.isolation.specs.Readings.{readingsFit}
-use Rattle.listing.specs.Records.{recordSize, listing, recordsOf}
-use Rattle.listing.specs.Rows.{keyId, keyNumber, writtenWith, noRoomWith, listingValues, hasRoom, listingFor, tableLinks, tableRecords, listAfter}
+use Rattle.listing.specs.Records.{listing, recordsOf}
+use Rattle.listing.specs.Rows.{keyId, keyNumber, tableLinks, tableRecords}
 use Rattle.isolation.specs.Activity.{activeWord, unreadPlace, firstUnread, fitting}
 use Rattle.format.proofs.FindingLaws.{first-out, root-inside}
-use Rattle.isolation.proofs.GraphsLaws.{DoneReached, finished-done, rows-listing, rows-records-listing, listing-length}
+use Rattle.isolation.proofs.GraphsLaws.{DoneReached, finished-done, rows-listing, rows-records-listing}
 use Rattle.isolation.proofs.TablesLaws.{entries-few, act-size, root-in-tables, tables-listing, tables-count}
 use Rattle.isolation.proofs.UnreadLaws.{unread-none, unread-some}
 
@@ -62,40 +59,23 @@ module _ (act ch : List ℕ) (root : ℕ) (marks : List ℕ) (marks-are : marks 
   marks-done : root < tableGraph act ch .size → tableGraph act ch .size ≤ libraryLimits .nodeInstances → DoneReached (tableGraph act ch) root marks
   marks-done h l = subst (DoneReached (tableGraph act ch) root) (sym marks-are) (finished-done (tableGraph act ch) root h l)
 
--- What is answered of the room.
-room-yes : (k bytes : ℕ) {count : ℕ} → listingValues (Listing.Written count) ≡ listingFor k bytes → (k ≡ count) × (hasRoom k bytes ≡ true)
-unfolding listingFor
-room-yes k bytes {count} e = go (hasRoom k bytes) e
-  where
-    go : (t : Bool) → writtenWith count ≡ cond t (writtenWith k) (noRoomWith 19 k) → (k ≡ count) × (t ≡ true)
-    go true e = (sym (ap (λ v. v .records) e), refl)
-    go false e = let z : _≡_ {A = ℕ} 0 19 = ap (λ v. v .number) e in absurd (omega arith)
+-- What is found
 
-room-no : (k bytes : ℕ) {count : ℕ} → listingValues (Listing.NoRoom count) ≡ listingFor k bytes → (k ≡ count) × (hasRoom k bytes ≡ false)
-unfolding listingFor
-room-no k bytes {count} e = go (hasRoom k bytes) e
-  where
-    go : (t : Bool) → noRoomWith 19 count ≡ cond t (writtenWith k) (noRoomWith 19 k) → (k ≡ count) × (t ≡ false)
-    go true e = let z : _≡_ {A = ℕ} 19 0 = ap (λ v. v .number) e in absurd (omega arith)
-    go false e = (sym (ap (λ v. v .place) e), refl)
-
--- The answer
-
-module _ (of : LimitSet) (file : List ℕ) (attention : ℕ) (words read list : List ℕ) where
+module _ (of : LimitSet) (slot : ℕ) (file : List ℕ) (attention : ℕ) (words read : List ℕ) where
   -- 1 to 14
-  pub file-refused : {n p : ℕ} → verdict (limitsOf of) file ≡ refused n p → refusedOutcome n p list ≡ isolate (limitsOf of) file attention words read list
-  unfolding isolate isolateIn
+  pub file-refused : {n p : ℕ} → verdict (limitsOf of) file ≡ refused n p → stopped n p ≡ find (limitsOf of) slot file attention words read
+  unfolding find findIn
   file-refused e = rw e
 
   module _ (c : Chip) (end : ℕ) (accepted : verdict (limitsOf of) file ≡ done c end) where
     -- 15
-    pub type-refused : knownAttention attention ≡ false → refusedOutcome 15 0 list ≡ isolate (limitsOf of) file attention words read list
-    unfolding isolate isolateIn
+    pub type-refused : knownAttention attention ≡ false → stopped 15 0 ≡ find (limitsOf of) slot file attention words read
+    unfolding find findIn
     type-refused k = rw (accepted, k)
 
     -- 16
-    pub root-refused : knownAttention attention ≡ true → rootFor attention c ≡ [] → refusedOutcome 16 0 list ≡ isolate (limitsOf of) file attention words read list
-    unfolding isolate isolateIn fromRoot
+    pub root-refused : knownAttention attention ≡ true → rootFor attention c ≡ [] → stopped 16 0 ≡ find (limitsOf of) slot file attention words read
+    unfolding find findIn fromRoot
     root-refused k r = rw (accepted, k, r)
 
     fitting-is : (m : ℕ) → m ≡ length (registerEntries c) → fitting m words read ≡ readingsFit c words read
@@ -104,8 +84,8 @@ module _ (of : LimitSet) (file : List ℕ) (attention : ℕ) (words read list : 
 
     module _ (known : knownAttention attention ≡ true) (t : Root) (ts : List Root) (rooted : rootFor attention c ≡ t ∷ ts) (m : ℕ) (m-is : m ≡ length (registerEntries c)) where
       -- 17
-      pub readings-refused : fitting m words read ≡ false → refusedOutcome 17 0 list ≡ isolate (limitsOf of) file attention words read list
-      unfolding isolate isolateIn fromRoot
+      pub readings-refused : fitting m words read ≡ false → stopped 17 0 ≡ find (limitsOf of) slot file attention words read
+      unfolding find findIn fromRoot
       readings-refused f = rw (accepted, known, rooted, sym (fitting-is m m-is) ∙ f)
 
       -- The root's position, the tables, and the marks after the walk.
@@ -136,57 +116,40 @@ module _ (of : LimitSet) (file : List ℕ) (attention : ℕ) (words read list : 
         reached : DoneReached (tableGraph act ch) root marks
         reached = marks-done act ch root marks marks-are inside-tables (omega (arith, size, entries-few of c meets))
 
-        isolate-is : isolate (limitsOf of) file attention words read list
-            ≡ allRead (reachedUnread c attention read (chipGraph c attention words read) root) list (outcome.listOutcome c attention (chipGraph c attention words read) root list)
-        unfolding isolate isolateIn fromRoot
-        isolate-is = rw (accepted, known, rooted, sym (fitting-is m m-is) ∙ fit, root-is)
+        find-is : find (limitsOf of) slot file attention words read
+            ≡ allRead (reachedUnread c attention read (chipGraph c attention words read) root) (foundFrom c slot attention (chipGraph c attention words read) root)
+        unfolding find findIn fromRoot
+        find-is = rw (accepted, known, rooted, sym (fitting-is m m-is) ∙ fit, root-is)
 
         -- 18
-        pub unread-refused : {p : ℕ} → p ≡ firstUnread marks unread n → (p ≡ 0 → ⊥) → refusedOutcome 18 p list ≡ isolate (limitsOf of) file attention words read list
+        pub unread-refused : {p : ℕ} → p ≡ firstUnread marks unread n → (p ≡ 0 → ⊥) → stopped 18 p ≡ find (limitsOf of) slot file attention words read
         unread-refused d e =
-            sym (isolate-is ∙ unread-some of file bytes c whole attention words read act ch rest act-is ch-is root inside marks reached unread unread-is n n-is d e list _)
+            sym (find-is ∙ unread-some of file bytes c whole attention words read act ch rest act-is ch-is root inside marks reached unread unread-is n n-is d e _)
 
-        -- Every register is read. The code's answer about the list decides.
-        module _ (valued : firstUnread marks unread n ≡ 0) (nodes : List ℕ) (nodes-are : nodes ≡ nodeKeys c) (l : Listing) (l-is : listingValues l ≡ listingFor (length (tableLinks marks act ch)) (length list)) where
-          written-is : isolate (limitsOf of) file attention words read list ≡ outcome.listOutcome c attention (chipGraph c attention words read) root list
+        -- Every register is read. The code's rows are what is found.
+        module _ (valued : firstUnread marks unread n ≡ 0) (nodes : List ℕ) (nodes-are : nodes ≡ nodeKeys c) (slot-fits : slot < 256) where
+          found-is : find (limitsOf of) slot file attention words read ≡ foundFrom c slot attention (chipGraph c attention words read) root
           unfolding allRead
-          written-is =
-              isolate-is
+          found-is =
+              find-is
               ∙ rw (unread-none of file bytes c whole attention words read act ch rest act-is ch-is root inside marks reached unread unread-is n n-is valued)
 
           listing-is : tableLinks marks act ch ≡ listing (chipGraph c attention words read) root
           unfolding tableGraph tableLinks
           listing-is = rows-listing (tableGraph act ch) root marks reached ∙ tables-listing of c meets attention words read act ch rest act-is ch-is root inside
 
-          records-are : tableRecords attention nodes marks act ch ≡ recordsOf c attention (listing (chipGraph c attention words read) root)
+          records-are : tableRecords (c .model) slot attention nodes marks act ch ≡ recordsOf c slot attention (listing (chipGraph c attention words read) root)
           unfolding tableRecords
           records-are =
-              rows-records-listing (tableGraph act ch) root marks reached c attention nodes size (keys-tell of c meets nodes nodes-are) (tableSize act)
-              (act-size of c meets attention words read act ch rest act-is ch-is)
-              ∙ ap (recordsOf c attention) (tables-listing of c meets attention words read act ch rest act-is ch-is root inside)
+              rows-records-listing (tableGraph act ch) root marks reached c slot attention nodes size (keys-tell of c meets nodes nodes-are) (meets .fields .model) slot-fits
+              (tableSize act) (act-size of c meets attention words read act ch rest act-is ch-is)
+              ∙ ap (recordsOf c slot attention) (tables-listing of c meets attention words read act ch rest act-is ch-is root inside)
 
-          l-room : listingValues l ≡ listingFor (length (listing (chipGraph c attention words read) root)) (length list)
-          l-room = l-is ∙ ap (λ x. listingFor (length x) (length list)) listing-is
-
-          -- 19
-          pub room-refused : {count : ℕ} → l ≡ Listing.NoRoom count → {new : List ℕ} → new ≡ listAfter attention nodes marks act ch list
-              → refusedOutcome 19 count new ≡ isolate (limitsOf of) file attention words read list
-          unfolding outcome.listOutcome listAfter hasRoom
-          room-refused e {new} d =
-              let r = room-no _ _ (sym (ap listingValues e) ∙ l-room) in
-              let b : new ≡ list = d ∙ rw (listing-is, r .1) in
-              sym (written-is ∙ rw (r .1, b, r .0))
+          steps-are : finished (tableGraph act ch) root .steps ≡ reachedCount (chipGraph c attention words read) root
+          steps-are = steps-reached (tableGraph act ch) root inside-tables ∙ tables-count of c meets attention words read act ch rest act-is ch-is root inside
 
           -- Success
-          pub all-written : {count : ℕ} → l ≡ Listing.Written count → {new : List ℕ} → new ≡ listAfter attention nodes marks act ch list
-              → doneOutcome count (finished (tableGraph act ch) root .steps) new ≡ isolate (limitsOf of) file attention words read list
-          unfolding outcome.listOutcome recordSize chipGraph listAfter hasRoom
-          all-written {count} e {new} d =
-              let r = room-yes _ _ (sym (ap listingValues e) ∙ l-room) in
-              let ls = listing (chipGraph c attention words read) root in
-              let b : new ≡ recordsOf c attention ls ++ drop (length ls * 8) list =
-              d ∙ rw (listing-is, r .1, records-are)
-              (ap (λ x. recordsOf c attention ls ++ drop x list) (listing-length c attention (chipGraph c attention words read) root refl)) in
-              let s : finished (tableGraph act ch) root .steps ≡ reachedCount (chipGraph c attention words read) root =
-              steps-reached (tableGraph act ch) root inside-tables ∙ tables-count of c meets attention words read act ch rest act-is ch-is root inside in
-              sym (written-is ∙ rw (r .1, b, s, r .0))
+          pub all-found : {count : ℕ} → count ≡ length (tableLinks marks act ch) → {records : List ℕ} → records ≡ tableRecords (c .model) slot attention nodes marks act ch
+              → found count records (finished (tableGraph act ch) root .steps) ≡ find (limitsOf of) slot file attention words read
+          unfolding foundFrom
+          all-found d e = sym (found-is ∙ rw (d, e, listing-is, records-are, steps-are))

@@ -84,13 +84,13 @@ module _ (m n keys nodes places active unread : ℕ) where
       }
 
   -- With room the answer is exact.
-  pub answer-is : Roomy → {o : Outcome} (x s : Outcome) → o ≡ x → o ≡ cond (bothFit n active unread) x s
+  pub answer-is : Roomy → {A : Type 0} {o : A} (x s : A) → o ≡ x → o ≡ cond (bothFit n active unread) x s
   unfolding bothFit
   answer-is r x s e = rw (le-leb _ _ (r .active-in), le-leb _ _ (r .unread-in)) e
 
   -- Where it is the words or the places of unread registers that have none, it is not.
   pub answer-short : m ≤ keys → n ≤ nodes → n ≤ places → {t : Bool} → t ≡ tablesFit m n keys nodes places active unread → t ≡ false
-      → (x s : Outcome) → s ≡ cond (bothFit n active unread) x s
+      → {A : Type 0} (x s : A) → s ≡ cond (bothFit n active unread) x s
   answer-short a b d {t} e h x s =
       let z : bothFit n active unread ≡ false = rest-room a b d refl ∙ sym e ∙ h in
       ap (λ b. cond b x s) (sym z)
@@ -113,8 +113,8 @@ cut-tabled of file l keys index names places child x =
 
 -- Isolation in lent tables
 
-module _ (of : LimitSet) (t : Lengths) (file : List ℕ) (unread : ℕ) (x s : Outcome) where
-  abbrev Given : Outcome → Type 0
+module _ {A : Type 0} (of : LimitSet) (t : Lengths) (file : List ℕ) (unread : ℕ) (x s : A) where
+  abbrev Given : A → Type 0
   Given o = o ≡ cond (roomIn (limitsOf of) t unread file) x s
 
   pub unread-short : unread < t .names → Given s
@@ -122,11 +122,11 @@ module _ (of : LimitSet) (t : Lengths) (file : List ℕ) (unread : ℕ) (x s : O
   unread-short h = rw (lt-leb _ _ h)
 
   module _ (long : t .names ≤ unread) (r : LayoutRead) (is : making layoutValues (layoutParsed r) ≡ cond (roomFor (limitsOf of) t file) (making countsOf (verdict (limitsOf of) file)) (refused 43 0)) where
-    given : (b : Bool) → roomFor (limitsOf of) t file ≡ b → {o : Outcome} → o ≡ cond b x s → Given o
+    given : (b : Bool) → roomFor (limitsOf of) t file ≡ b → {o : A} → o ≡ cond b x s → Given o
     unfolding roomIn
     given b e d = rw (le-leb _ _ long, e) d
 
-    pub given-answer : {l : Layout} → r ≡ LayoutRead.Done l → {keys index names places child : List ℕ} → Examined of file l keys index names places child → (wanted left : ℕ) → wanted ≡ t .wanted → left ≡ unread → {o : Outcome}
+    pub given-answer : {l : Layout} → r ≡ LayoutRead.Done l → {keys index names places child : List ℕ} → Examined of file l keys index names places child → (wanted left : ℕ) → wanted ≡ t .wanted → left ≡ unread → {o : A}
         → o ≡ cond (bothFit (l .«node_instances») wanted left) x s → Given o
     unfolding bothFit
     given-answer {l} e y wanted left same kept d =
@@ -136,9 +136,9 @@ module _ (of : LimitSet) (t : Lengths) (file : List ℕ) (unread : ℕ) (x s : O
         let b : l .«node_instances» ≤ left = omega (arith, z .names, long, kept) in
         given true room (d ∙ rw (le-leb _ _ a, le-leb _ _ b))
 
-    pub given-refused : {y : Refusal} → r ≡ LayoutRead.Refused y → {list : List ℕ} → s ≡ refusedOutcome 43 0 list
-        → (verdict (limitsOf of) file ≡ refused (numberOf (y .kind)) (y .place) → refusedOutcome (numberOf (y .kind)) (y .place) list ≡ x) → Given (refusedOutcome (numberOf (y .kind)) (y .place) list)
-    given-refused e {list} short exact =
+    pub given-refused : {y : Refusal} → r ≡ LayoutRead.Refused y → (stop : ℕ → ℕ → A) → s ≡ stop 43 0
+        → (verdict (limitsOf of) file ≡ refused (numberOf (y .kind)) (y .place) → stop (numberOf (y .kind)) (y .place) ≡ x) → Given (stop (numberOf (y .kind)) (y .place))
+    given-refused e stop short exact =
         ⊎-elim
         (λ z. given true (z .0) (exact (z .1)))
         (λ z. given false (z .0) (rw (z .1, z .2) (sym short)))
@@ -146,7 +146,7 @@ module _ (of : LimitSet) (t : Lengths) (file : List ℕ) (unread : ℕ) (x s : O
 
 -- A class of tables
 
-pub class-outcome : (limits : Limits) (k : Class) (file : List ℕ) {o : Outcome} (x s : Outcome)
+pub class-outcome : {A : Type 0} (limits : Limits) (k : Class) (file : List ℕ) {o : A} (x s : A)
     → o ≡ cond (roomIn limits (lengthsOf (replicate (k .registers) 0) (replicate (k .registers) 0) (replicate (k .nodes) 0) (replicate (k .nodes) 0) (replicate (k .nodes) 0) (replicate (k .nodes * 64) 0)) (length (replicate {A = ℕ} (k .nodes) 0)) file) x s
     → o ≡ cond (roomFor limits (classRoom k) file) x s
 unfolding roomIn

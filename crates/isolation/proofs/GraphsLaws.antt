@@ -25,8 +25,9 @@ use Rattle.walk.specs.Marks.{markCount, finished}
 use Rattle.walk.proofs.Step.{getD-tabulate}
 use Rattle.walk.proofs.WalkLaws.{reached-inside}
 use Rattle.listing.specs.Records.{recordOf, recordBytes, listing, linkRecord, recordsOf}
-use Rattle.listing.specs.Rows.{bitsTo, isDone, rowLinks, rowsTo, bitRecords, keyId, keyNumber, rowRecords, rowsRecords}
+use Rattle.listing.specs.Rows.{bitsTo, isDone, rowLinks, rowsTo, keyId, keyNumber, headOf, headRecord, bitRecords, rowRecords, rowsRecords}
 use Rattle.listing.proofs.WriteLaws.{record-length}
+use Rattle.isolation.proofs.HeadLaws.{head-record}
 
 -- The numbers below n, and what a test keeps
 
@@ -133,14 +134,14 @@ agree-reached g h s root l a =
 
 -- Records
 
-bytes-is : (attention bit : ℕ) (e : NodeEntry) → recordBytes attention bit e ≡ recordOf attention bit (e .id) (e .instance .number)
+bytes-is : (model slot attention bit : ℕ) (e : NodeEntry) → recordBytes model slot attention bit e ≡ recordOf model slot attention bit (e .id) (e .instance .number)
 unfolding recordBytes
-bytes-is attention bit e = refl
+bytes-is model slot attention bit e = refl
 
-records-gathered : (c : Chip) (attention : ℕ) (f : ℕ → List Link) (xs : List ℕ)
-    → gathered (λ i. recordsOf c attention (f i)) xs ≡ recordsOf c attention (gathered f xs)
+records-gathered : (c : Chip) (slot attention : ℕ) (f : ℕ → List Link) (xs : List ℕ)
+    → gathered (λ i. recordsOf c slot attention (f i)) xs ≡ recordsOf c slot attention (gathered f xs)
 unfolding recordsOf
-records-gathered c attention f xs = sym (gathered-gathered (linkRecord c attention) f xs)
+records-gathered c slot attention f xs = sym (gathered-gathered (linkRecord c slot attention) f xs)
 
 -- The listing, node instance after node instance
 
@@ -200,58 +201,62 @@ module _ (g : Graph) (root : ℕ) (m : List ℕ) (done : DoneReached g root m) w
   unfolding rowsTo listing
   rows-listing = gathered-same _ _ (below (g .size)) (every-below _ (g .size) row-is)
 
-  -- A table of keys that hold the IDs and numbers of a chip's node instances.
-  module _ (c : Chip) (attention : ℕ) (keys : List ℕ) (size : g .size ≡ length (nodeEntries c))
-      (tells : (i : ℕ) (e : NodeEntry) → at i (nodeEntries c) ≡ e ∷ [] → (keyId (getD keys i 0) ≡ e .id) × (keyNumber (getD keys i 0) ≡ e .instance .number)) where
-    link-is : (i b : ℕ) → i < g .size → linkRecord c attention (link i b) ≡ recordOf attention b (keyId (getD keys i 0)) (keyNumber (getD keys i 0))
+  -- A table of keys that hold the IDs and numbers of a chip's node instances, and the chip's slot.
+  module _ (c : Chip) (slot attention : ℕ) (keys : List ℕ) (size : g .size ≡ length (nodeEntries c))
+      (tells : (i : ℕ) (e : NodeEntry) → at i (nodeEntries c) ≡ e ∷ [] → (keyId (getD keys i 0) ≡ e .id) × (keyNumber (getD keys i 0) ≡ e .instance .number))
+      (model-fits : c .model < 0x1_0000_0000) (slot-fits : slot < 256) where
+    abbrev headAt : ℕ → ℕ
+    headAt i = headOf (c .model) slot (getD keys i 0)
+
+    link-is : (i b : ℕ) → i < g .size → linkRecord c slot attention (link i b) ≡ headRecord attention (headAt i) b
     unfolding linkRecord
     link-is i b l =
         let r = at-inside i (nodeEntries c) (omega arith) in
         let t = tells i (r .0) (r .1) in
-        rw (r .1, t .0, t .1) (gathered-one (recordBytes attention b) (r .0) ∙ bytes-is attention b (r .0))
+        rw (r .1, head-record (c .model) slot (getD keys i 0) model-fits slot-fits attention b, t .0, t .1)
+        (gathered-one (recordBytes (c .model) slot attention b) (r .0) ∙ bytes-is (c .model) slot attention b (r .0))
 
-    bits-are : (i : ℕ) → i < g .size → (bs : List ℕ)
-        → bitRecords attention (keyId (getD keys i 0)) (keyNumber (getD keys i 0)) bs ≡ gathered (λ b. linkRecord c attention (link i b)) bs
+    bits-are : (i : ℕ) → i < g .size → (bs : List ℕ) → bitRecords attention (headAt i) bs ≡ gathered (λ b. linkRecord c slot attention (link i b)) bs
     unfolding bitRecords
     bits-are i l bs = gathered-same _ _ bs (every-all _ (λ b. sym (link-is i b l)) bs)
 
-    row-records : (i : ℕ) → i < g .size → rowRecords attention keys g m i ≡ recordsOf c attention (map (link i) (listedOf g root i))
+    row-records : (i : ℕ) → i < g .size → rowRecords (c .model) slot attention keys g m i ≡ recordsOf c slot attention (map (link i) (listedOf g root i))
     unfolding rowRecords recordsOf gathered
     row-records i l =
         rw (listed-of g root i, done-is i l)
         (go (reachedFrom g root i)
-        ∙ sym (gathered-map (linkRecord c attention) (link i) (cond (reachedFrom g root i) (bitsTo g i 64) [])))
+        ∙ sym (gathered-map (linkRecord c slot attention) (link i) (cond (reachedFrom g root i) (bitsTo g i 64) [])))
       where
-        go : (t : Bool) → cond t (bitRecords attention (keyId (getD keys i 0)) (keyNumber (getD keys i 0)) (bitsTo g i 64)) []
-            ≡ gathered (λ b. linkRecord c attention (link i b)) (cond t (bitsTo g i 64) [])
+        go : (t : Bool) → cond t (bitRecords attention (headAt i) (bitsTo g i 64)) []
+            ≡ gathered (λ b. linkRecord c slot attention (link i b)) (cond t (bitsTo g i 64) [])
         go true = bits-are i l (bitsTo g i 64)
         go false = refl
 
     -- The records of all done node instances are those of the listing.
-    pub rows-records-listing : (n : ℕ) → n ≡ length (nodeEntries c) → rowsRecords attention keys g m n ≡ recordsOf c attention (listing g root)
+    pub rows-records-listing : (n : ℕ) → n ≡ length (nodeEntries c) → rowsRecords (c .model) slot attention keys g m n ≡ recordsOf c slot attention (listing g root)
     unfolding rowsRecords listing
     rows-records-listing n e =
-        ap (λ k. gathered (rowRecords attention keys g m) (below k)) (e ∙ sym size)
+        ap (λ k. gathered (rowRecords (c .model) slot attention keys g m) (below k)) (e ∙ sym size)
         ∙ gathered-same _ _ (below (g .size)) (every-below _ (g .size) row-records)
-        ∙ records-gathered c attention (λ i. map (link i) (listedOf g root i)) (below (g .size))
+        ∙ records-gathered c slot attention (λ i. map (link i) (listedOf g root i)) (below (g .size))
 
--- Every record has 8 bytes.
+-- Every record has 16 bytes.
 
-module _ (c : Chip) (attention : ℕ) where
-  link-length : (l : Link) → l .instance < length (nodeEntries c) → length (linkRecord c attention l) ≡ 8
+module _ (c : Chip) (slot attention : ℕ) where
+  link-length : (l : Link) → l .instance < length (nodeEntries c) → length (linkRecord c slot attention l) ≡ 16
   unfolding linkRecord recordBytes
   link-length l h =
       let r = at-inside (l .instance) (nodeEntries c) h in
-      rw (r .1) (ap length (gathered-one (recordBytes attention (l .bit)) (r .0)) ∙ record-length attention (l .bit) _ _)
+      rw (r .1) (ap length (gathered-one (recordBytes (c .model) slot attention (l .bit)) (r .0)) ∙ record-length (c .model) slot attention (l .bit) _ _)
 
-  pub records-of-length : (ls : List Link) → Every (λ l. l .instance < length (nodeEntries c)) ls → length (recordsOf c attention ls) ≡ length ls * 8
+  pub records-of-length : (ls : List Link) → Every (λ l. l .instance < length (nodeEntries c)) ls → length (recordsOf c slot attention ls) ≡ length ls * 16
   unfolding recordsOf gathered Every
   records-of-length [] h = refl
   records-of-length (l ∷ ls) h =
-      length-append (linkRecord c attention l) (recordsOf c attention ls) ∙ omega (arith, link-length l (h .0), records-of-length ls (h .1))
+      length-append (linkRecord c slot attention l) (recordsOf c slot attention ls) ∙ omega (arith, link-length l (h .0), records-of-length ls (h .1))
 
   -- So those of the listing, where the graph's node instances are the chip's.
   pub listing-length : (g : Graph) (root : ℕ) → g .size ≡ length (nodeEntries c)
-      → length (recordsOf c attention (listing g root)) ≡ length (listing g root) * 8
+      → length (recordsOf c slot attention (listing g root)) ≡ length (listing g root) * 16
   listing-length g root e =
       records-of-length (listing g root) (every-map _ _ (λ l h. omega arith) (listing g root) (listing-inside g root))

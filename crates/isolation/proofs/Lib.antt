@@ -1,4 +1,5 @@
 -- The laws of isolation, and the samples.
+pub mod HeadLaws
 pub mod GraphsLaws
 pub mod ChipLaws
 pub mod OutcomeLaws
@@ -11,3 +12,5 @@ pub mod SettleLaws
 pub mod ReachLaws
 pub mod RootLaws
 pub mod ClassesLaws
+pub mod WrittenLaws
+pub mod FoundLaws

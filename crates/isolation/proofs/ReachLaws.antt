@@ -30,7 +30,7 @@ use Rattle.walk.proofs.RunLaws.{run-start, run-ready, run-step, run-end}
 use Rattle.walk.proofs.Tables.{table-sound}
 use Rattle.walk.proofs.WalkLaws.{Walking, started-at, length-started, walked-others}
 use Rattle.listing.specs.Records.{listing, recordsOf}
-use Rattle.listing.specs.Rows.{isDone, keyId, keyNumber, tableLinks, tableRecords, listAfter}
+use Rattle.listing.specs.Rows.{isDone, keyId, keyNumber, tableLinks, tableRecords}
 use Rattle.isolation.specs.declared.Activity.{Activity}
 use Rattle.isolation.specs.Activity.{RulesAgain, activeWord, unreadPlace, unreadAt, firstUnread, activeColumn, unreadColumn, SameDone}
 use Rattle.isolation.specs.Ready.{Tabled}
@@ -85,21 +85,18 @@ module _ (a b ch : List ℕ) (lengths : length a ≡ length b) where
     unfolding tableLinks tableGraph
     links-same = rows-listing (tableGraph b ch) root marks done-other ∙ sym listings ∙ sym (rows-listing (tableGraph a ch) root marks done)
 
-    module _ (c : Chip) (attention : ℕ) (keys : List ℕ) (size : tableGraph a ch .size ≡ length (nodeEntries c))
-        (tells : (i : ℕ) (e : NodeEntry) → at i (nodeEntries c) ≡ e ∷ [] → (keyId (getD keys i 0) ≡ e .id) × (keyNumber (getD keys i 0) ≡ e .instance .number)) where
+    module _ (c : Chip) (slot attention : ℕ) (keys : List ℕ) (size : tableGraph a ch .size ≡ length (nodeEntries c))
+        (tells : (i : ℕ) (e : NodeEntry) → at i (nodeEntries c) ≡ e ∷ [] → (keyId (getD keys i 0) ≡ e .id) × (keyNumber (getD keys i 0) ≡ e .instance .number))
+        (model-fits : c .model < 0x1_0000_0000) (slot-fits : slot < 256) where
       size-other : tableGraph b ch .size ≡ length (nodeEntries c)
       size-other = sym (table-agree .size) ∙ size
 
-      pub records-same : tableRecords attention keys marks b ch ≡ tableRecords attention keys marks a ch
+      pub records-same : tableRecords (c .model) slot attention keys marks b ch ≡ tableRecords (c .model) slot attention keys marks a ch
       unfolding tableRecords tableGraph
       records-same =
-          rows-records-listing (tableGraph b ch) root marks done-other c attention keys size-other tells (tableSize b) size-other
-          ∙ ap (recordsOf c attention) (sym listings)
-          ∙ sym (rows-records-listing (tableGraph a ch) root marks done c attention keys size tells (tableSize a) size)
-
-      pub list-same : (list : List ℕ) → listAfter attention keys marks b ch list ≡ listAfter attention keys marks a ch list
-      unfolding listAfter
-      list-same list = rw (links-same, records-same)
+          rows-records-listing (tableGraph b ch) root marks done-other c slot attention keys size-other tells model-fits slot-fits (tableSize b) size-other
+          ∙ ap (recordsOf c slot attention) (sym listings)
+          ∙ sym (rows-records-listing (tableGraph a ch) root marks done c slot attention keys size tells model-fits slot-fits (tableSize a) size)
 
 -- The first unread register of done node instances depends on their places alone.
 module _ (marks u v : List ℕ) (same : SameDone marks u v) where

@@ -21,12 +21,12 @@ use Rattle.format.proofs.Acceptance.{verdict-meets}
 use Rattle.isolation.specs.Activity.{fitting}
 use Rattle.format.specs.Finding.{rootFor}
 use Rattle.reader.specs.Columns.{rootPlace}
-use Rattle.isolation.specs.Outcome.{refusedOutcome, isolate}
+use Rattle.isolation.specs.Outcome.{stopped, find}
 use Rattle.isolation.specs.Ready.{Tabled, Ready}
 use Rattle.isolation.proofs.AnswerLaws.{type-refused, root-refused, readings-refused}
 use Rattle.format.proofs.FindingLaws.{first-none, first-some, root-inside}
 
-module _ (of : LimitSet) (file : List ℕ) (bytes : Bytes file) (attention : ℕ) (words read list keys index nodes places children : List ℕ) (root : ℕ)
+module _ (of : LimitSet) (slot : ℕ) (file : List ℕ) (bytes : Bytes file) (attention : ℕ) (words read keys index nodes places children : List ℕ) (root : ℕ)
     (t : Tabled of file keys index nodes places children) (r : root ≡ rootPlace (t .chip) (rootFor attention (t .chip))) where
   meets : Meets (limitsOf of) (t .chip)
   meets = verdict-meets (limitsOf of) file bytes (t .accepted)
@@ -65,33 +65,33 @@ module _ (of : LimitSet) (file : List ℕ) (bytes : Bytes file) (attention : ℕ
   a-root l = ⊎-elim (λ e. absurd (omega (arith, size-is, few, place-none e))) (λ x. (x .0, x .1, place-one (x .0) (x .1))) root-cases
 
   -- 15 to 17.
-  pub small-type : attention < 1 → refusedOutcome 15 0 list ≡ isolate (limitsOf of) file attention words read list
+  pub small-type : attention < 1 → stopped 15 0 ≡ find (limitsOf of) slot file attention words read
   unfolding knownAttention
-  small-type h = type-refused of file attention words read list (t .chip) (t .end) (t .accepted) (rw (lt-leb 1 attention h))
+  small-type h = type-refused of slot file attention words read (t .chip) (t .end) (t .accepted) (rw (lt-leb 1 attention h))
 
   module _ (least : 1 ≤ attention) where
-    pub large-type : 5 < attention → refusedOutcome 15 0 list ≡ isolate (limitsOf of) file attention words read list
+    pub large-type : 5 < attention → stopped 15 0 ≡ find (limitsOf of) slot file attention words read
     unfolding knownAttention
-    large-type h = type-refused of file attention words read list (t .chip) (t .end) (t .accepted) (rw (le-leb 1 attention least, lt-leb attention 5 h))
+    large-type h = type-refused of slot file attention words read (t .chip) (t .end) (t .accepted) (rw (le-leb 1 attention least, lt-leb attention 5 h))
 
     module _ (most : attention ≤ 5) where
-      known : knownAttention attention ≡ true
+      pub known : knownAttention attention ≡ true
       unfolding knownAttention
       known = rw (le-leb 1 attention least, le-leb attention 5 most)
 
-      pub rootless : length nodes ≤ root → refusedOutcome 16 0 list ≡ isolate (limitsOf of) file attention words read list
-      rootless l = root-refused of file attention words read list (t .chip) (t .end) (t .accepted) known (no-root l)
+      pub rootless : length nodes ≤ root → stopped 16 0 ≡ find (limitsOf of) slot file attention words read
+      rootless l = root-refused of slot file attention words read (t .chip) (t .end) (t .accepted) known (no-root l)
 
-      keys-length : length keys ≡ length (registerEntries (t .chip))
+      pub keys-length : length keys ≡ length (registerEntries (t .chip))
       keys-length = ap length (t .keys-are) ∙ length-map (registerEntries (t .chip)) _
 
       module _ (l : root < length nodes) {b : Bool} (fit : b ≡ fitting (length keys) words read) where
-        pub unfitting : b ≡ false → refusedOutcome 17 0 list ≡ isolate (limitsOf of) file attention words read list
+        pub unfitting : b ≡ false → stopped 17 0 ≡ find (limitsOf of) slot file attention words read
         unfitting e =
             let x = a-root l in
-            readings-refused of file attention words read list (t .chip) (t .end) (t .accepted) known (x .0) [] (x .1) (length keys) keys-length (sym fit ∙ e)
+            readings-refused of slot file attention words read (t .chip) (t .end) (t .accepted) known (x .0) [] (x .1) (length keys) keys-length (sym fit ∙ e)
 
-        pub ready : b ≡ true → Ready of file attention words read keys index nodes places children root
+        abbrev pub ready : b ≡ true → Ready of file attention words read keys index nodes places children root
         ready e =
             let x = a-root l in
             record {

@@ -20,9 +20,9 @@ use Rattle.graph.specs.Chains.{silent, nothingBelow, linked, reachedFrom, lista
 use Rattle.graph.specs.Paths.{reachedIn, reached, onCycle}
 use Rattle.format.specs.Finding.{firstOf, ruleFor, rootFor, childFor, childPosition}
 use Rattle.isolation.specs.ChipGraph.{ruleUnread, ruleActive, entryActive, entryChild, chipGraph}
-use Rattle.isolation.specs.Outcome.{entryUnread, reachedUnread, listOutcome, allRead, fromRoot, isolateIn, isolate}
+use Rattle.isolation.specs.Outcome.{entryUnread, reachedUnread, foundFrom, allRead, fromRoot, findIn, find, written, inList, isolate}
 use Rattle.isolation.specs.Readings.{readingsFit, hasValue, wordFor, unreadFaults}
-use Rattle.listing.specs.Records.{recordSize, recordOf, recordBytes, listing, linkRecord, recordsOf}
+use Rattle.listing.specs.Records.{recordSize, bitBytes, recordOf, recordBytes, listing, linkRecord, recordsOf}
 use Rattle.isolation.specs.Samples.{lent, twoNodes}
 use Rattle.numbers.specs.BigEndian.{bigEndian, bytesOf}
 use Rattle.numbers.specs.Bits.{bitOf, wordOf, notBits, andBits, orBits, leftBits, rightBits}
@@ -30,6 +30,6 @@ use Rattle.numbers.specs.Field.{present, field}
 use Rattle.isolation.specs.Samples.{AllHold, samples}
 
 pub samples-hold : AllHold samples
-unfolding leads childEdge OnCycle cyclesFrom cycleFaults operationOf readingAt operandsAt shiftedAt bodyAt exprAt fieldAt same keywordAt countAt knownType typeAt addressSize knownFlags flagsAt readable knownAttention attentionAt member fresh startAt rootAt rootsAt fileAt levels chipdata regs node root some position at gathered entriesOf registerEntries registerNamed nodeEntriesOf nodeEntries nodeNamed registerPosition nodePosition valueWithin bitsWithin captureAt ruleAt childAt instanceHeadAt nodeInstanceAt nodeTotal nodeHeadAt nodeAt nodesAt andThen making require requiring rowAt unless fits hasRule hasRegister hasRegisterThat registerFaults hasNode captureFaults namedFaults ruleFaults childFaults instanceFaults rootFaults referenceFaults namedBy registerTotal registerInstanceAt registerHeadAt registerAt registersAt b1 selfChild capturing gather judged verdict checkOf check any count silent nothingBelow linked reachedFrom listable listed below kept listedOf reachedCount reachedIn reached onCycle firstOf ruleFor rootFor childFor ruleUnread ruleActive entryActive childPosition entryChild chipGraph entryUnread reachedUnread listOutcome allRead fromRoot isolateIn isolate readingsFit hasValue wordFor unreadFaults recordSize recordOf recordBytes listing linkRecord recordsOf lent twoNodes bigEndian bytesOf bitOf wordOf notBits andBits orBits leftBits rightBits present field
+unfolding leads childEdge OnCycle cyclesFrom cycleFaults operationOf readingAt operandsAt shiftedAt bodyAt exprAt fieldAt same keywordAt countAt knownType typeAt addressSize knownFlags flagsAt readable knownAttention attentionAt member fresh startAt rootAt rootsAt fileAt levels chipdata regs node root some position at gathered entriesOf registerEntries registerNamed nodeEntriesOf nodeEntries nodeNamed registerPosition nodePosition valueWithin bitsWithin captureAt ruleAt childAt instanceHeadAt nodeInstanceAt nodeTotal nodeHeadAt nodeAt nodesAt andThen making require requiring rowAt unless fits hasRule hasRegister hasRegisterThat registerFaults hasNode captureFaults namedFaults ruleFaults childFaults instanceFaults rootFaults referenceFaults namedBy registerTotal registerInstanceAt registerHeadAt registerAt registersAt b1 selfChild capturing gather judged verdict checkOf check any count silent nothingBelow linked reachedFrom listable listed below kept listedOf reachedCount reachedIn reached onCycle firstOf ruleFor rootFor childFor ruleUnread ruleActive entryActive childPosition entryChild chipGraph entryUnread reachedUnread foundFrom allRead fromRoot findIn find written inList isolate readingsFit hasValue wordFor unreadFaults recordSize bitBytes recordOf recordBytes listing linkRecord recordsOf lent twoNodes bigEndian bytesOf bitOf wordOf notBits andBits orBits leftBits rightBits present field
 samples-hold =
     ((refl, refl), ((refl, refl), ((refl, refl), ((refl, refl), ((refl, refl), ((refl, refl), ((refl, refl), ((refl, refl), (refl, ((refl, refl), ((refl, refl), ((refl, refl), ((refl, refl), ((refl, refl), ((refl, refl), ((refl, refl), ((refl, refl), tt)))))))))))))))))

@@ -18,16 +18,18 @@ use Rattle.tables.specs.Keys.{registerKeys}
 use Rattle.tables.proofs.ColumnLaws.{column-at}
 use Rattle.walk.specs.declared.Walked.{Walked}
 use Rattle.walk.specs.Marks.{finished}
+use Rattle.walk.proofs.Tables.{size-few}
 use Rattle.walk.specs.TableGraph.{tableSize, tableGraph}
-use Rattle.listing.specs.declared.Listing
-use Rattle.listing.specs.declared.Listing.{Listing}
 use Rattle.isolation.specs.Activity.{unreadPlace, firstUnread, activeColumn, unreadColumn, SameDone}
-use Rattle.isolation.specs.Outcome.{refusedOutcome, doneOutcome, isolate}
+use Rattle.isolation.specs.Outcome.{stopped, found, find}
 use Rattle.isolation.specs.Ready.{Ready}
-use Rattle.listing.specs.Rows.{listingValues, listingFor, tableLinks, listAfter}
-use Rattle.isolation.proofs.AnswerLaws.{keys-tell, unread-refused, room-refused, all-written}
+use Rattle.listing.specs.Rows.{tableLinks, tableRecords}
+use Rattle.isolation.proofs.AnswerLaws.{keys-tell, unread-refused, all-found}
 use Rattle.isolation.proofs.GraphsLaws.{DoneReached, finished-done}
-use Rattle.isolation.proofs.ReachLaws.{links-same, list-same, first-same}
+use Rattle.isolation.proofs.ReachLaws.{links-same, records-same, first-same}
+
+pub size-within : (act : List ℕ) {n : ℕ} → length act ≡ n → tableSize act ≤ n
+size-within act e = omega (arith, size-few act .1, e)
 
 module _ (of : LimitSet) (file : List ℕ) (bytes : Bytes file) (attention : ℕ) (words read keys index nodes places children : List ℕ) (root : ℕ)
     (ready : Ready of file attention words read keys index nodes places children root) where
@@ -79,49 +81,44 @@ module _ (of : LimitSet) (file : List ℕ) (bytes : Bytes file) (attention : ℕ
         (finished-done (tableGraph whole children) root root-inside-graph (omega (arith, whole-size, few)))
 
     -- The places of unread registers that it fills.
-    module _ (list unread : List ℕ) (gaps : SameDone (w .marks) unread (unreadColumn keys read attention chip)) where
+    module _ (slot : ℕ) (unread : List ℕ) (gaps : SameDone (w .marks) unread (unreadColumn keys read attention chip)) where
       places-done : SameDone (w .marks) unread (unreadColumn (registerKeys chip) read attention chip)
       places-done = subst (λ k. SameDone (w .marks) unread (unreadColumn k read attention chip)) (ready .tabled .keys-are) gaps
 
       first-is : {p : ℕ} → p ≡ firstUnread (w .marks) unread (length places) → p ≡ firstUnread (w .marks) (unreadColumn (registerKeys chip) read attention chip) (length places)
       first-is d = d ∙ first-same (w .marks) unread _ places-done (length places)
 
-      pub settled-unread : {p : ℕ} → p ≡ firstUnread (w .marks) unread (length places) → (p ≡ 0 → ⊥) → refusedOutcome 18 p list ≡ isolate (limitsOf of) file attention words read list
+      pub settled-unread : {p : ℕ} → p ≡ firstUnread (w .marks) unread (length places) → (p ≡ 0 → ⊥) → stopped 18 p ≡ find (limitsOf of) slot file attention words read
       settled-unread d e =
           let t = ready .tabled in
-          unread-refused of file attention words read list chip (t .end) (t .accepted) (ready .known) (ready .first) (ready .others) (ready .rooted) (length (registerEntries chip)) refl
+          unread-refused of slot file attention words read chip (t .end) (t .accepted) (ready .known) (ready .first) (ready .others) (ready .rooted) (length (registerEntries chip)) refl
           bytes (ready .fits) root (ready .root-is) whole children (t .rest) refl (t .children-are) _ unread-is (w .marks) (ap (λ x. x .marks) walked) (length places) size-is (first-is d) e
 
       -- And the words of active bits.
       module _ (active : List ℕ) (la : length active ≡ length places) (same : SameDone (w .marks) active (activeColumn keys words read attention chip)) {p : ℕ}
-          (d : p ≡ firstUnread (w .marks) unread (length places)) (z : p ≡ 0) (l : Listing) (l-is : listingValues l ≡ listingFor (length (tableLinks (w .marks) active children)) (length list)) where
+          (d : p ≡ firstUnread (w .marks) unread (length places)) (z : p ≡ 0) (slot-fits : slot < 256) where
         words-done : SameDone (w .marks) active whole
         words-done = subst (λ k. SameDone (w .marks) active (activeColumn k words read attention chip)) (ready .tabled .keys-are) same
 
         lengths : length whole ≡ length active
         lengths = omega (arith, whole-length, la, size-is)
 
-        l-whole : listingValues l ≡ listingFor (length (tableLinks (w .marks) whole children)) (length list)
-        l-whole = l-is ∙ ap (λ x. listingFor (length x) (length list)) (links-same whole active children lengths root root-inside-graph (w .marks) done words-done)
+        links : tableLinks (w .marks) active children ≡ tableLinks (w .marks) whole children
+        links = links-same whole active children lengths root root-inside-graph (w .marks) done words-done
 
-        after : {new : List ℕ} → new ≡ listAfter attention nodes (w .marks) active children list → new ≡ listAfter attention nodes (w .marks) whole children list
-        after h =
-            h ∙ list-same whole active children lengths root root-inside-graph (w .marks) done words-done chip attention nodes whole-size (keys-tell of chip meets nodes (ready .tabled .nodes-are)) list
+        records-whole : tableRecords (chip .model) slot attention nodes (w .marks) active children ≡ tableRecords (chip .model) slot attention nodes (w .marks) whole children
+        records-whole =
+            records-same whole active children lengths root root-inside-graph (w .marks) done words-done chip slot attention nodes whole-size (keys-tell of chip meets nodes (ready .tabled .nodes-are))
+            (meets .fields .model) slot-fits
 
-        pub settled-room : {count : ℕ} → l ≡ Listing.NoRoom count → {new : List ℕ} → new ≡ listAfter attention nodes (w .marks) active children list
-            → refusedOutcome 19 count new ≡ isolate (limitsOf of) file attention words read list
-        settled-room e h =
-            let t = ready .tabled in
-            room-refused of file attention words read list chip (t .end) (t .accepted) (ready .known) (ready .first) (ready .others) (ready .rooted) (length (registerEntries chip)) refl
-            bytes (ready .fits) root (ready .root-is) whole children (t .rest) refl (t .children-are) _ unread-is (w .marks) (ap (λ x. x .marks) walked) (length places) size-is
-            (sym (first-is d) ∙ z) nodes (t .nodes-are) l l-whole e (after h)
-
-        pub settled-written : {count : ℕ} → l ≡ Listing.Written count → {new : List ℕ} → new ≡ listAfter attention nodes (w .marks) active children list
-            → doneOutcome count (w .steps) new ≡ isolate (limitsOf of) file attention words read list
-        settled-written {count} e {new} h =
+        pub settled-found : {model : ℕ} → model ≡ chip .model → {count : ℕ} → count ≡ length (tableLinks (w .marks) active children)
+            → {records : List ℕ} → records ≡ tableRecords model slot attention nodes (w .marks) active children
+            → found count records (w .steps) ≡ find (limitsOf of) slot file attention words read
+        settled-found m {count} k {records} h =
             let t = ready .tabled in
             let s : w .steps ≡ finished (tableGraph whole children) root .steps = ap (λ x. x .steps) walked in
-            ap (λ x. doneOutcome count x new) s
-            ∙ all-written of file attention words read list chip (t .end) (t .accepted) (ready .known) (ready .first) (ready .others) (ready .rooted) (length (registerEntries chip)) refl
+            ap (found count records) s
+            ∙ all-found of slot file attention words read chip (t .end) (t .accepted) (ready .known) (ready .first) (ready .others) (ready .rooted) (length (registerEntries chip)) refl
             bytes (ready .fits) root (ready .root-is) whole children (t .rest) refl (t .children-are) _ unread-is (w .marks) (ap (λ x. x .marks) walked) (length places) size-is
-            (sym (first-is d) ∙ z) nodes (t .nodes-are) l l-whole e (after h)
+            (sym (first-is d) ∙ z) nodes (t .nodes-are) slot-fits (k ∙ ap length links)
+            (h ∙ ap (λ x. tableRecords x slot attention nodes (w .marks) active children) m ∙ records-whole)

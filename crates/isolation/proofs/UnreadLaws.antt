@@ -31,7 +31,7 @@ use Rattle.tables.specs.Keys.{registerKeys}
 use Rattle.reader.specs.Columns.{childColumn}
 use Rattle.evaluation.specs.Value.{firstPlace}
 use Rattle.isolation.specs.ChipGraph.{ruleUnread, chipGraph}
-use Rattle.isolation.specs.Outcome.{Outcome, refusedOutcome, entryUnread, reachedUnread, allRead}
+use Rattle.isolation.specs.Outcome.{Findings, stopped, entryUnread, reachedUnread, allRead}
 use Rattle.isolation.specs.Readings.{unreadFaults}
 use Rattle.listing.specs.Rows.{isDone}
 use Rattle.isolation.specs.Activity.{activeWord, unreadPlace, RulesAgain, unreadAt, firstUnread}
@@ -158,10 +158,10 @@ unfolding firstPlace Every
 none-first [] h e = refl
 none-first (f ∷ fs) h e = absurd (h .0 e)
 
-some-first : (fs : List Fault) → Every Eighteen fs → (firstPlace fs ≡ 0 → ⊥) → (list : List ℕ) (o : Outcome) → allRead fs list o ≡ refusedOutcome 18 (firstPlace fs) list
+some-first : (fs : List Fault) → Every Eighteen fs → (firstPlace fs ≡ 0 → ⊥) → (o : Findings) → allRead fs o ≡ stopped 18 (firstPlace fs)
 unfolding firstPlace Every allRead
-some-first [] h e list o = absurd (e refl)
-some-first (f ∷ fs) h e list o = rw (h .0)
+some-first [] h e o = absurd (e refl)
+some-first (f ∷ fs) h e o = rw (h .0)
 
 -- The tables of an accepted file, with marks that are done where the root reaches.
 module _ (of : LimitSet) (s : List ℕ) (bytes : Bytes s) (c : Chip) (accepted : verdict (limitsOf of) s ≡ done c (length s)) (attention : ℕ) (words read : List ℕ) (act ch rest : List ℕ)
@@ -221,8 +221,8 @@ module _ (of : LimitSet) (s : List ℕ) (bytes : Bytes s) (c : Chip) (accepted :
     pub unread-none : firstUnread marks unread n ≡ 0 → reachedUnread c attention read (chipGraph c attention words read) root ≡ []
     unread-none e = none-first _ reached-standing (sym first-unread-is ∙ e)
 
-    pub unread-some : {p : ℕ} → p ≡ firstUnread marks unread n → (p ≡ 0 → ⊥) → (list : List ℕ) (o : Outcome)
-        → allRead (reachedUnread c attention read (chipGraph c attention words read) root) list o ≡ refusedOutcome 18 p list
-    unread-some {p} d e list o =
+    pub unread-some : {p : ℕ} → p ≡ firstUnread marks unread n → (p ≡ 0 → ⊥) → (o : Findings)
+        → allRead (reachedUnread c attention read (chipGraph c attention words read) root) o ≡ stopped 18 p
+    unread-some {p} d e o =
         let w : p ≡ firstPlace (reachedUnread c attention read (chipGraph c attention words read) root) = d ∙ first-unread-is in
-        some-first _ (reached-eighteen c attention read (chipGraph c attention words read) root) (λ z. e (w ∙ z)) list o ∙ ap (λ x. refusedOutcome 18 x list) (sym w)
+        some-first _ (reached-eighteen c attention read (chipGraph c attention words read) root) (λ z. e (w ∙ z)) o ∙ ap (stopped 18) (sym w)

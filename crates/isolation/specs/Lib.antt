@@ -3,5 +3,6 @@ pub mod Readings
 pub mod ChipGraph
 pub mod Activity
 pub mod Outcome
+pub mod Rows
 pub mod Samples
 pub mod Ready

@@ -52,34 +52,46 @@ unfoldable pub reachedUnread : Chip → ℕ → List ℕ → Graph → ℕ → L
 reachedUnread c attention read g root =
     gathered (λ i. cond (reachedFrom g root i) (gathered (entryUnread c attention read) (at i (nodeEntries c))) []) (below (g .size))
 
--- "Success writes the records and no further byte"; 19 where they are more than the list's whole places.
-unfoldable pub listOutcome : Chip → ℕ → Graph → ℕ → List ℕ → Outcome
-listOutcome c attention g root list =
-    cond (leb (length (listing g root)) (length list / recordSize))
-    (doneOutcome (length (listing g root)) (reachedCount g root)
-    (recordsOf c attention (listing g root) ++ drop (length (listing g root) * recordSize) list))
-    (refusedOutcome 19 (length (listing g root)) list)
+-- What isolation finds in a file for a slot, before a list is looked at: a refusal by 1 to 18, with its number and place; or how many bits are listed, their records, and the steps.
+pub data Findings : Type 0 where
+  stopped : ℕ → ℕ → Findings
+  found : ℕ → List ℕ → ℕ → Findings
+
+unfoldable pub foundFrom : Chip → ℕ → ℕ → Graph → ℕ → Findings
+foundFrom c slot attention g root = found (length (listing g root)) (recordsOf c slot attention (listing g root)) (reachedCount g root)
 
 -- The first unread register decides.
-unfoldable pub allRead : List Fault → List ℕ → Outcome → Outcome
-allRead [] list o = o
-allRead (f ∷ fs) list o = refusedOutcome (f .number) (f .place) list
+unfoldable pub allRead : List Fault → Findings → Findings
+allRead [] o = o
+allRead (f ∷ fs) o = stopped (f .number) (f .place)
 
-unfoldable pub fromRoot : Chip → ℕ → List ℕ → List ℕ → List ℕ → List Root → Outcome
-fromRoot c attention words read list [] = refusedOutcome 16 0 list
-fromRoot c attention words read list (t ∷ ts) =
+unfoldable pub fromRoot : Chip → ℕ → ℕ → List ℕ → List ℕ → List Root → Findings
+fromRoot c slot attention words read [] = stopped 16 0
+fromRoot c slot attention words read (t ∷ ts) =
     cond (readingsFit c words read)
     (allRead
     (reachedUnread c attention read (chipGraph c attention words read) (nodePosition c (t .id) (t .number)))
-    list
-    (listOutcome c attention (chipGraph c attention words read) (nodePosition c (t .id) (t .number)) list))
-    (refusedOutcome 17 0 list)
+    (foundFrom c slot attention (chipGraph c attention words read) (nodePosition c (t .id) (t .number))))
+    (stopped 17 0)
 
-unfoldable pub isolateIn : ℕ → List ℕ → List ℕ → List ℕ → Parsed Chip → Outcome
-isolateIn attention words read list (refused n p) = refusedOutcome n p list
-isolateIn attention words read list (done c end) =
-    cond (knownAttention attention) (fromRoot c attention words read list (rootFor attention c)) (refusedOutcome 15 0 list)
+unfoldable pub findIn : ℕ → ℕ → List ℕ → List ℕ → Parsed Chip → Findings
+findIn slot attention words read (refused n p) = stopped n p
+findIn slot attention words read (done c end) =
+    cond (knownAttention attention) (fromRoot c slot attention words read (rootFor attention c)) (stopped 15 0)
 
--- The answer by the limits that hold for the file. "Order: .. then 14; then 15 to 19."
+-- By the limits that hold for the file. "Order: .. then 14; then 15 to 19."
+unfoldable pub find : Limits → ℕ → List ℕ → ℕ → List ℕ → List ℕ → Findings
+find limits slot file attention words read = findIn slot attention words read (verdict limits file)
+
+-- "Success writes the records and no further byte"; 19 where they are more than the list's whole places.
+unfoldable pub written : ℕ → List ℕ → ℕ → List ℕ → Outcome
+written count records steps list =
+    cond (leb count (length list / recordSize)) (doneOutcome count steps (records ++ drop (count * recordSize) list)) (refusedOutcome 19 count list)
+
+unfoldable pub inList : List ℕ → Findings → Outcome
+inList list (stopped n p) = refusedOutcome n p list
+inList list (found count records steps) = written count records steps list
+
+-- The answer for one chip: "The single-chip call writes slot 0."
 unfoldable pub isolate : Limits → List ℕ → ℕ → List ℕ → List ℕ → List ℕ → Outcome
-isolate limits file attention words read list = isolateIn attention words read list (verdict limits file)
+isolate limits file attention words read list = inList list (find limits 0 file attention words read)

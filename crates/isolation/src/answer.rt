@@ -1,14 +1,15 @@
-// The answer of isolation from the tables of an accepted file.
+// What isolation finds by the tables of an accepted file, and its answer by a list.
+use crate::Found;
 use crate::Isolated;
-use crate::Isolation;
+use crate::Kept;
 use crate::active::first_unread;
 use crate::active::readings_fit;
 use crate::reach::reach;
+use crate::written::write_found;
 use format::Kind;
 use format::Refusal;
 use format::number;
-use listing::Listing;
-use listing::write_list;
+use listing::keep_list;
 use reader::Layout;
 use reader::wanted::wanted_root;
 ghost use mathlib.Core.Bool.{true, cond};
@@ -19,29 +20,32 @@ ghost use Rattle.limits.specs.Limits.{limitsOf};
 ghost use Rattle.format.specs.FileLayout.{rootsAt};
 ghost use Rattle.format.specs.Parsed.{done};
 ghost use Rattle.reader.specs.Examined.{Examined};
-ghost use Rattle.isolation.specs.Outcome.{outcomeOf, refusedOutcome, isExact, isolate};
+ghost use Rattle.isolation.specs.Outcome.{outcomeOf, refusedOutcome, isExact, stopped, find, isolate};
+ghost use Rattle.isolation.specs.Rows.{foundOf, RowsWithin, isFound};
 ghost use Rattle.isolation.specs.Ready.{Tabled, Ready, bothFit, tablesFit};
 
-// Refusals 18 and 19, or success, where the type has a root and the readings fit. A rule is evaluated as the walk takes its node instance. Once every reading that is needed is known, `unread` takes the words of the listed bits.
+// Refusal 18, or the rows of the listed bits, where the type has a root and the readings fit. A rule is evaluated as the walk takes its node instance. Once every reading that is needed is known, `places` takes the heads of the rows and `unread` their words.
 fn settle(
     file: &[u8],
+    model: u64,
+    slot: u8,
     attention: u8,
     words: &[u64],
     read: &[u8],
-    list: &mut [u8],
     root: usize,
     index: &[u16],
     keys: &[u64],
     nodes: &[u64],
-    places: &[u64],
+    places: &mut [u64],
     children: &[u16],
     active: &mut [u64],
     unread: &mut [u64],
-) -> Isolated
+) -> Found
     requires { ⌜ (length (now active) ≡ length (now places)) × (length (now unread) ≡ length (now places)) ⌝ }
-    ensures { λ r. ⌜ ((of : LimitSet)
-        → Ready of (now (file .entry)) attention (now (words .entry)) (now (read .entry)) (now (keys .entry)) (now (index .entry)) (now (nodes .entry)) (now (places .entry)) (now (children .entry)) root
-        → outcomeOf r (now (list .exit)) ≡ isolate (limitsOf of) (now (file .entry)) attention (now (words .entry)) (now (read .entry)) (now (list .entry))) ⌝ }
+    ensures { λ r. ⌜ ((of : LimitSet) (t : Ready of (now (file .entry)) attention (now (words .entry)) (now (read .entry)) (now (keys .entry)) (now (index .entry)) (now (nodes .entry)) (now (places .entry)) (now (children .entry)) root)
+        → model ≡ t .tabled .chip .model
+        → foundOf attention r (now (places .exit)) (now (unread .exit)) ≡ find (limitsOf of) slot (now (file .entry)) attention (now (words .entry)) (now (read .entry))) ⌝ }
+    ensures { λ r. ⌜ RowsWithin r (now (places .entry)) (now (unread .entry)) ⌝ }
 {
     let w = reach(
         file,
@@ -60,57 +64,54 @@ fn settle(
     let steps = w.steps;
     let u = first_unread(&marks, unread, places.len());
     if u != 0 {
-        return Isolated::Refused(Refusal {
+        return Found::Refused(Refusal {
             kind: Kind::RegisterUnread,
             place: u,
         });
     }
-    let l = write_list(list, attention, nodes, &marks, active, children, unread);
-    match l {
-        Listing::Written(records) => Isolated::Done(Isolation { records, steps }),
-        Listing::NoRoom(records) => Isolated::Refused(Refusal {
-            kind: Kind::NoRoom,
-            place: records,
-        }),
-    }
+    let rows = keep_list(places, unread, model, slot, nodes, &marks, active, children);
+    Found::Rows(Kept { rows, steps })
 }
 
-// Refusals 15 to 19, or success, by the tables of an accepted file. `active` and `unread` take what its rules give, and `unread` then the words of the listed bits.
+// Refusals 15 to 18, or the rows of the listed bits, by the tables of an accepted file. `active` and `unread` take what its rules give; then `places` takes the heads of the rows and `unread` their words.
 fn by_tables(
     file: &[u8],
+    model: u64,
     roots_at: usize,
+    slot: u8,
     attention: u8,
     words: &[u64],
     read: &[u8],
-    list: &mut [u8],
     index: &[u16],
     keys: &[u64],
     nodes: &[u64],
-    places: &[u64],
+    places: &mut [u64],
     children: &[u16],
     active: &mut [u64],
     unread: &mut [u64],
-) -> Isolated
+) -> Found
     requires { ⌜ (length (now active) ≡ length (now places)) × (length (now unread) ≡ length (now places)) ⌝ }
     ensures { λ r. ⌜ ((of : LimitSet) (t : Tabled of (now (file .entry)) (now (keys .entry)) (now (index .entry)) (now (nodes .entry)) (now (places .entry)) (now (children .entry)))
+        → model ≡ t .chip .model
         → rootsAt (now (file .entry)) true «roots_at» ≡ done (t .chip .roots) (t .end)
-        → outcomeOf r (now (list .exit)) ≡ isolate (limitsOf of) (now (file .entry)) attention (now (words .entry)) (now (read .entry)) (now (list .entry))) ⌝ }
+        → foundOf attention r (now (places .exit)) (now (unread .exit)) ≡ find (limitsOf of) slot (now (file .entry)) attention (now (words .entry)) (now (read .entry))) ⌝ }
+    ensures { λ r. ⌜ RowsWithin r (now (places .entry)) (now (unread .entry)) ⌝ }
 {
     if attention < 1 {
-        return Isolated::Refused(Refusal {
+        return Found::Refused(Refusal {
             kind: Kind::BadAttentionType,
             place: 0,
         });
     }
     if 5 < attention {
-        return Isolated::Refused(Refusal {
+        return Found::Refused(Refusal {
             kind: Kind::BadAttentionType,
             place: 0,
         });
     }
     let root = wanted_root(file, roots_at, attention, nodes);
     if nodes.len() <= root {
-        return Isolated::Refused(Refusal {
+        return Found::Refused(Refusal {
             kind: Kind::NoRoot,
             place: 0,
         });
@@ -118,10 +119,11 @@ fn by_tables(
     if readings_fit(keys.len(), words, read) {
         return settle(
             file,
+            model,
+            slot,
             attention,
             words,
             read,
-            list,
             root,
             index,
             keys,
@@ -132,7 +134,7 @@ fn by_tables(
             unread,
         );
     }
-    Isolated::Refused(Refusal {
+    Found::Refused(Refusal {
         kind: Kind::ReadingsUnfit,
         place: 0,
     })
@@ -165,27 +167,28 @@ fn has_room(
     n <= unread
 }
 
-// The answer for an accepted file, by its tables as the reader fills them. `active` and `unread` are to have a place for each node instance, and where one has not, the answer is 43 at 0.
-pub fn answer(
+// What is found in an accepted file, by its tables as the reader fills them: rows whose heads go to `places` and whose words to `unread`, or a refusal. `active` and `unread` are to have a place for each node instance, and where one has not, the answer is 43 at 0.
+pub fn find_by(
     file: &[u8],
     l: Layout,
+    slot: u8,
     attention: u8,
     words: &[u64],
     read: &[u8],
-    list: &mut [u8],
     index: &[u16],
     keys: &[u64],
     nodes: &[u64],
-    places: &[u64],
+    places: &mut [u64],
     children: &[u16],
     active: &mut [u64],
     unread: &mut [u64],
-) -> Isolated
+) -> Found
     ensures { λ r. ⌜ ((of : LimitSet)
         → Examined of (now (file .entry)) l (now (keys .entry)) (now (index .entry)) (now (nodes .entry)) (now (places .entry)) (now (children .entry))
-        → outcomeOf r (now (list .exit)) ≡ cond (bothFit (l .«node_instances») (length (now (active .entry))) (length (now (unread .entry))))
-        (isolate (limitsOf of) (now (file .entry)) attention (now (words .entry)) (now (read .entry)) (now (list .entry)))
-        (refusedOutcome 43 0 (now (list .entry)))) ⌝ }
+        → foundOf attention r (now (places .exit)) (now (unread .exit)) ≡ cond (bothFit (l .«node_instances») (length (now (active .entry))) (length (now (unread .entry))))
+        (find (limitsOf of) slot (now (file .entry)) attention (now (words .entry)) (now (read .entry)))
+        (stopped 43 0)) ⌝ }
+    ensures { λ r. ⌜ RowsWithin r (now (places .entry)) (now (unread .entry)) ⌝ }
 {
     let m = l.register_instances;
     let n = l.node_instances;
@@ -200,24 +203,78 @@ pub fn answer(
     ) {
         return by_tables(
             file,
+            l.model,
             l.roots_at,
+            slot,
             attention,
             words,
             read,
-            list,
             index,
             &keys[..m],
             &nodes[..n],
-            &places[..n],
+            &mut places[..n],
             children,
             &mut active[..n],
             &mut unread[..n],
         );
     }
-    Isolated::Refused(Refusal {
+    Found::Refused(Refusal {
         kind: Kind::TableTooShort,
         place: 0,
     })
+}
+
+// The answer for an accepted file, by its tables as the reader fills them. `active` and `unread` are to have a place for each node instance, and where one has not, the answer is 43 at 0. What `places` then holds is free.
+pub fn answer(
+    file: &[u8],
+    l: Layout,
+    attention: u8,
+    words: &[u64],
+    read: &[u8],
+    list: &mut [u8],
+    index: &[u16],
+    keys: &[u64],
+    nodes: &[u64],
+    places: &mut [u64],
+    children: &[u16],
+    active: &mut [u64],
+    unread: &mut [u64],
+) -> Isolated
+    ensures { λ r. ⌜ ((of : LimitSet)
+        → Examined of (now (file .entry)) l (now (keys .entry)) (now (index .entry)) (now (nodes .entry)) (now (places .entry)) (now (children .entry))
+        → outcomeOf r (now (list .exit)) ≡ cond (bothFit (l .«node_instances») (length (now (active .entry))) (length (now (unread .entry))))
+        (isolate (limitsOf of) (now (file .entry)) attention (now (words .entry)) (now (read .entry)) (now (list .entry)))
+        (refusedOutcome 43 0 (now (list .entry)))) ⌝ }
+{
+    let f = find_by(
+        file,
+        l,
+        0,
+        attention,
+        words,
+        read,
+        index,
+        keys,
+        nodes,
+        places,
+        children,
+        active,
+        unread,
+    );
+    write_found(list, attention, f, places, unread)
+}
+
+// Whether what was found is not that a table was too short.
+pub fn is_found(r: Found) -> bool
+    ensures { λ b. ⌜ b ≡ isFound r ⌝ }
+{
+    match r {
+        Found::Rows(_) => true,
+        Found::Refused(x) => {
+            let kind = x.kind;
+            number(kind) != 43
+        }
+    }
 }
 
 // Whether an answer is not that a table was too short.

@@ -1,5 +1,5 @@
 -- The limits of a chip data file: refusals 1, 8 and 9 of document 01's table, and what document 02 (x) raises.
-use Prim.Native.Nat.{ℕ}
+use Prim.Native.Nat.{ℕ, _*_}
 use Rattle.limits.specs.declared.LimitSet
 use Rattle.limits.specs.declared.LimitSet.{LimitSet}
 
@@ -25,3 +25,11 @@ limitsOf LimitSet.Program = programLimits
 -- The levels of an expression: "an expression may nest to level 16".
 unfoldable pub levels : ℕ
 levels = 16
+
+-- The most slots of a board (document 02 (vi)): "A board call takes 1 to 16 slots".
+unfoldable pub slots : ℕ
+slots = 16
+
+-- The node instances that the files of a board may have in all.
+unfoldable pub boardNodeInstances : ℕ
+boardNodeInstances = slots * libraryLimits .nodeInstances

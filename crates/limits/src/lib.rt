@@ -27,6 +27,11 @@ pub const PROGRAM_NODE_INSTANCES: usize = 256;
 // The levels of an expression, in either set.
 pub const LEVELS: usize = 16;
 
+// The most slots of a board, and the node instances that their files may have in all.
+pub const SLOTS: usize = 16;
+
+pub const BOARD_NODE_INSTANCES: usize = SLOTS * NODE_INSTANCES;
+
 // The most bytes of a file.
 pub fn bytes(of: LimitSet) -> usize
     ensures { λ r. ⌜ r ≡ limitsOf of .bytes ⌝ }

@@ -1,20 +1,16 @@
--- The two passes: the listable bits of a node instance gathered into a word, and the records of a word's bits, one bit after another; and the table of words.
+-- The two passes: the listable bits of a node instance gathered into a word, and the records of a word's bits, one bit after another.
 use mathlib.Core.Path.{_≡_, sym, _∙_}
 use mathlib.Core.Bool.{Bool, true, false, cond}
 use mathlib.Core.List.{List, _++_}
-use mathlib.Core.Logic.{⊎-elim}
 use Prim.Native.Nat.{ℕ, _+_, _*_, _^_, _≤_, _<_}
 use native.Mathlib.Omega.{arith}
-use lib.ListN.{length, getD, set, take, drop, length-set}
-use lib.Seq.{getD-set-same, getD-set-other}
+use lib.ListN.{length, getD, take, drop}
 use Rattle.numbers.specs.Bits.{bitOf}
 use Rattle.numbers.specs.NextBit.{nextBit, withoutNext, withBit}
-use Rattle.numbers.proofs.Bools.{same?}
 use Rattle.numbers.proofs.TakenLaws.{Taken, taken-none, taken-in, taken-set, taken-next, taken-up, taken-all}
-use Rattle.graph.specs.Chains.{Graph, listable}
+use Rattle.graph.specs.Chains.{listable}
 use Rattle.walk.specs.TableGraph.{tableSize, tableGraph}
-use Rattle.listing.specs.Records.{recordOf}
-use Rattle.listing.specs.Rows.{listedWord, rowWord, RowsKept, setTo, bitRecords, Wrote}
+use Rattle.listing.specs.Rows.{listedWord, setTo, headRecord, bitRecords, wordRecords, Wrote}
 use Rattle.listing.proofs.RowsLaws.{listable-off}
 use Rattle.listing.proofs.WordLaws.{wordTo, word-started, word-skip, word-step, word-full, set-same}
 use Rattle.listing.proofs.WriteLaws.{bits-started, bits-wrote, room-next}
@@ -53,51 +49,33 @@ module _ (act ch : List ℕ) (n i : ℕ) (size : n ≡ tableSize act) (h : i < n
 -- The second pass
 
 -- The records of those of the word's bits that were taken have been written, and `rest` has the other bits.
-abbrev pub Recorded : ℕ → ℕ → ℕ → ℕ → List ℕ → List ℕ → ℕ → ℕ → ℕ → Type 0
-Recorded attention id number word old new at place rest = Taken 64 word rest (λ b. Wrote old new at place (bitRecords attention id number (setTo word b)))
+abbrev pub Recorded : ℕ → ℕ → ℕ → List ℕ → List ℕ → ℕ → ℕ → ℕ → Type 0
+Recorded attention head word old new at place rest = Taken 64 word rest (λ b. Wrote old new at place (bitRecords attention head (setTo word b)))
 
-module _ (attention id number word : ℕ) {old : List ℕ} (at : ℕ) where
-  pub recorded-none : word < 2 ^ 64 → Recorded attention id number word old old at at word
-  recorded-none l = taken-none 64 _ _ l (bits-started attention id number word at)
+module _ (attention head word : ℕ) {old : List ℕ} (at : ℕ) where
+  pub recorded-none : word < 2 ^ 64 → Recorded attention head word old old at at word
+  recorded-none l = taken-none 64 _ _ l (bits-started attention head word at)
 
-  skip : {mid : List ℕ} {place : ℕ} (b : ℕ) → b < 64 → bitOf 64 word b ≡ false → Wrote old mid at place (bitRecords attention id number (setTo word b))
-      → Wrote old mid at place (bitRecords attention id number (setTo word (b + 1)))
+  skip : {mid : List ℕ} {place : ℕ} (b : ℕ) → b < 64 → bitOf 64 word b ≡ false → Wrote old mid at place (bitRecords attention head (setTo word b))
+      → Wrote old mid at place (bitRecords attention head (setTo word (b + 1)))
   skip b l off w = rw (set-same word b off) w
 
-  module _ {mid : List ℕ} {place rest : ℕ} (t : Recorded attention id number word old mid at place rest) where
-    module _ (room : at + 8 * length (setTo word 64) ≤ length old) (some : rest ≡ 0 → ⊥) {c : ℕ} (e : c ≡ nextBit 64 rest) where
-      up : Wrote old mid at place (bitRecords attention id number (setTo word c))
+  module _ {mid : List ℕ} {place rest : ℕ} (t : Recorded attention head word old mid at place rest) where
+    module _ (room : at + 16 * length (setTo word 64) ≤ length old) (some : rest ≡ 0 → ⊥) {c : ℕ} (e : c ≡ nextBit 64 rest) where
+      up : Wrote old mid at place (bitRecords attention head (setTo word c))
       up = taken-up t skip some e
 
-      enough : place + 8 ≤ length old
-      enough = room-next attention id number word c (taken-in t some e) (taken-set t some e) room up
+      enough : place + 16 ≤ length old
+      enough = room-next attention head word c (taken-in t some e) (taken-set t some e) room up
 
       -- There is room for the next.
-      pub recorded-room : place + 8 ≤ length mid
+      pub recorded-room : place + 16 ≤ length mid
       recorded-room = omega (arith, enough, up .same)
 
-      pub recorded-next : {new : List ℕ} {r : ℕ} → new ≡ take place mid ++ (recordOf attention c id number ++ drop (place + 8) mid) → length new ≡ length mid → r ≡ withoutNext 64 rest
-          → Recorded attention id number word old new at (place + 8) r
-      recorded-next w s d = taken-next t some e d (bits-wrote attention id number word c (taken-set t some e) up w s enough)
+      pub recorded-next : {new : List ℕ} {r : ℕ} → new ≡ take place mid ++ (headRecord attention head c ++ drop (place + 16) mid) → length new ≡ length mid → r ≡ withoutNext 64 rest
+          → Recorded attention head word old new at (place + 16) r
+      recorded-next w s d = taken-next t some e d (bits-wrote attention head word c (taken-set t some e) up w s enough)
 
-    pub recorded-all : rest ≡ 0 → Wrote old mid at place (bitRecords attention id number (setTo word 64))
+    pub recorded-all : rest ≡ 0 → Wrote old mid at place (wordRecords attention head word)
+    unfolding wordRecords
     recorded-all e = taken-all t skip e
-
--- The table of words
-
-module _ (g : Graph) (marks : List ℕ) where
-  pub kept-started : {listed : List ℕ} → RowsKept g marks 0 listed
-  kept-started = record { word = λ i h. absurd (omega arith) }
-
-  pub kept-next : (i : ℕ) {word : ℕ} {old new : List ℕ} → RowsKept g marks i old → word ≡ rowWord g marks i → new ≡ set old i word → RowsKept g marks (i + 1) new
-  kept-next i {word} {old} {new} k e d = rw d (record { word = λ j h l. at j h l })
-    where
-      at : (j : ℕ) → j < i + 1 → j < length (set old i word) → getD (set old i word) j 0 ≡ rowWord g marks j
-      at j h l =
-          let m : j < length old = omega (arith, length-set old i word) in
-          ⊎-elim (λ q. rw q (getD-set-same old i word 0 (omega arith) ∙ e))
-          (λ q. getD-set-other old i j word 0 q ∙ k .word j (omega arith) m)
-          (same? j i)
-
-  pub kept-end : (i n : ℕ) {listed : List ℕ} → RowsKept g marks i listed → i ≡ n → RowsKept g marks n listed
-  kept-end i n k e = rw (← e) k

@@ -1,28 +1,27 @@
 -- The laws of the listing, node instance after node instance and bit after bit.
-use mathlib.Core.Path.{_≡_, refl, sym, ap, _∙_}
+use mathlib.Core.Path.{_≡_, refl, sym, _∙_}
 use mathlib.Core.Bool.{Bool, true, false, cond}
-use mathlib.Core.List.{List, [], _∷_, _++_, map, append-assoc}
+use mathlib.Core.List.{List, [], _∷_, _++_, append-assoc}
 use Prim.Native.Nat.{ℕ, zero, suc, _+_, _*_, _/_, _%_, _^_, _≤_, _<_}
 use native.Mathlib.Omega.{arith}
 use native.Mathlib.Numerals.{add-one}
 use lib.Dec.{eqb, ltb}
-use lib.ListN.{length, getD, set, take, drop, length-append, length-map, List·getD-eq-default}
+use lib.ListN.{length, getD, set, take, drop, List·getD-eq-default}
 use lib.Seq.{sets-eq}
 use borrow.Author.Tests.{eqb-true, eq-eqb, lt-ltb}
 use Rattle.numbers.specs.Bits.{bitOf}
 use Rattle.numbers.specs.BigEndian.{bytesOf}
 use Rattle.numbers.proofs.BitsLaws.{zero-bit, word-none}
 use Rattle.numbers.proofs.Bools.{same-truth}
-use Rattle.graph.specs.Chains.{Graph, link, Silent, silent, nothingBelow, listable, below, kept}
-use Rattle.graph.proofs.BelowLaws.{below-length}
+use Rattle.graph.specs.Chains.{Graph, Silent, silent, nothingBelow, listable, below, kept}
 use Rattle.graph.proofs.ChainsLaws.{silent-words}
 use Rattle.format.specs.Lookup.{gathered}
 use Rattle.format.proofs.GatheredLaws.{gathered-append, gathered-one}
 use Rattle.walk.specs.TableGraph.{tableSize, childAt, tableGraph}
 use Rattle.walk.specs.Fold.{orElse}
 use Rattle.walk.proofs.Tables.{found-none, found-some, table-sound}
-use Rattle.listing.specs.Records.{recordOf}
-use Rattle.listing.specs.Rows.{bitsTo, isDone, rowLinks, rowsTo}
+use Rattle.listing.specs.Records.{recordOf, bitBytes}
+use Rattle.listing.specs.Rows.{isDone, rowLinks, rowsTo, keyId, keyNumber, headModel, headSlot, headRecord}
 
 -- One bit
 
@@ -78,67 +77,52 @@ kept-append p (x ∷ xs) ys = go (p x) (kept-append p xs ys)
     go true e = rw e
     go false e = e
 
-module _ (g : Graph) where
-  kept-few : (p : ℕ → Bool) (xs : List ℕ) → length (kept p xs) ≤ length xs
-  unfolding kept
-  kept-few p [] = omega arith
-  kept-few p (x ∷ xs) = go (p x) (kept-few p xs)
-    where
-      go : (t : Bool) → length (kept p xs) ≤ length xs → length (cond t (x ∷ kept p xs) (kept p xs)) ≤ suc (length xs)
-      go true h = omega arith
-      go false h = omega arith
+pub kept-few : (p : ℕ → Bool) (xs : List ℕ) → length (kept p xs) ≤ length xs
+unfolding kept
+kept-few p [] = omega arith
+kept-few p (x ∷ xs) = go (p x) (kept-few p xs)
+  where
+    go : (t : Bool) → length (kept p xs) ≤ length xs → length (cond t (x ∷ kept p xs) (kept p xs)) ≤ suc (length xs)
+    go true h = omega arith
+    go false h = omega arith
 
-  pub bits-few : (i n : ℕ) → length (bitsTo g i n) ≤ n
-  unfolding bitsTo
-  bits-few i n = omega (arith, kept-few (listable g i) (below n), below-length n)
+module _ (g : Graph) (marks : List ℕ) where
+  pub rows-none : 0 ≡ length (rowsTo g marks 0)
+  unfolding rowsTo below gathered
+  rows-none = refl
 
-  module _ (marks : List ℕ) where
-    pub row-few : (i : ℕ) → length (rowLinks g marks i) ≤ 64
-    unfolding rowLinks
-    row-few i = go (isDone marks i)
-      where
-        go : (t : Bool) → length (cond t (map (link i) (bitsTo g i 64)) []) ≤ 64
-        go true = rw length-map (bits-few i 64)
-        go false = omega arith
+  pub rows-more : (i : ℕ) → rowsTo g marks (i + 1) ≡ rowsTo g marks i ++ rowLinks g marks i
+  unfolding rowsTo below
+  rows-more i = rw add-one (gathered-append (rowLinks g marks) (below i) (i ∷ []) ∙ rw gathered-one)
 
-    pub rows-none : 0 ≡ length (rowsTo g marks 0)
-    unfolding rowsTo below gathered
-    rows-none = refl
+-- A record's sixteen bytes
 
-    pub rows-more : (i : ℕ) → rowsTo g marks (i + 1) ≡ rowsTo g marks i ++ rowLinks g marks i
-    unfolding rowsTo below
-    rows-more i = rw add-one (gathered-append (rowLinks g marks) (below i) (i ∷ []) ∙ rw gathered-one)
-
-    pub rows-count : (i : ℕ) {c k : ℕ} → c ≡ length (rowsTo g marks i) → k ≡ length (rowLinks g marks i) → c + k ≡ length (rowsTo g marks (i + 1))
-    rows-count i e d = omega (arith, ap length (rows-more i), length-append (rowsTo g marks i) (rowLinks g marks i))
-
-    pub rows-end : (i n : ℕ) {c : ℕ} → c ≡ length (rowsTo g marks i) → i ≡ n → c ≡ length (rowsTo g marks n)
-    rows-end i n e d = rw (← d) e
-
-    pub rows-few : (n : ℕ) → length (rowsTo g marks n) ≤ n * 64
-    rows-few zero = omega (arith, rows-none)
-    rows-few (suc n) =
-        let e : length (rowsTo g marks (suc n)) ≡ length (rowsTo g marks (n + 1)) = ap (λ x. length (rowsTo g marks x)) (sym (add-one n)) in
-        omega (arith, e, ap length (rows-more n), length-append (rowsTo g marks n) (rowLinks g marks n), row-few n, rows-few n)
-
--- A record's eight bytes
-
-record-is : (attention bit id number : ℕ) → attention < 256 → bit < 256 → id < 65536 → number < 256
-    → attention ∷ bit ∷ id / 256 ∷ id % 256 ∷ number ∷ 0 ∷ 0 ∷ 0 ∷ [] ≡ recordOf attention bit id number
-unfolding recordOf bytesOf
-record-is attention bit id number ha hb hi hn =
+record-is : (attention h bit : ℕ) → attention < 256 → h < 0x1_0000_0000_0000_0000 → bit < 256
+    → h / 0x100_0000_0000_0000 ∷ h / 0x1_0000_0000_0000 % 256 ∷ h / 0x100_0000_0000 % 256 ∷ h / 0x1_0000_0000 % 256
+    ∷ attention ∷ bit ∷ h / 0x1_0000 % 256 ∷ h / 256 % 256 ∷ h % 256 ∷ h / 0x100_0000 % 256 ∷ 0 ∷ 0 ∷ 0 ∷ 0 ∷ 0 ∷ 0 ∷ []
+    ≡ headRecord attention h bit
+unfolding headRecord headModel headSlot keyId keyNumber recordOf bitBytes bytesOf
+record-is attention h bit ha hh hb =
+    let m0 : h / 0x1_0000_0000 / 0x100_0000 % 256 ≡ h / 0x100_0000_0000_0000 = omega arith in
+    let m1 : h / 0x1_0000_0000 / 0x1_0000 % 256 ≡ h / 0x1_0000_0000_0000 % 256 = omega arith in
+    let m2 : h / 0x1_0000_0000 / 256 % 256 ≡ h / 0x100_0000_0000 % 256 = omega arith in
+    let m3 : h / 0x1_0000_0000 / 1 % 256 ≡ h / 0x1_0000_0000 % 256 = omega arith in
     let a : attention / 1 % 256 ≡ attention = omega arith in
     let b : bit / 1 % 256 ≡ bit = omega arith in
-    let h : id / 256 % 256 ≡ id / 256 = omega arith in
-    let l : id / 1 % 256 ≡ id % 256 = omega arith in
-    let n : number / 1 % 256 ≡ number = omega arith in
-    sym (rw (a, b, h, l, n))
+    let i : h / 256 % 65536 / 256 % 256 ≡ h / 0x1_0000 % 256 = omega arith in
+    let j : h / 256 % 65536 / 1 % 256 ≡ h / 256 % 256 = omega arith in
+    let n : h % 256 / 1 % 256 ≡ h % 256 = omega arith in
+    let s : h / 0x100_0000 % 256 / 1 % 256 ≡ h / 0x100_0000 % 256 = omega arith in
+    sym (rw (m0, m1, m2, m3, a, b, i, j, n, s))
 
-pub record-put : (list : List ℕ) (at attention bit id number : ℕ) → at + 8 ≤ length list → attention < 256 → bit < 256 → id < 65536 → number < 256
-    → set (set (set (set (set (set (set (set list at attention) (at + 1) bit) (at + 2) (id / 256)) (at + 3) (id % 256)) (at + 4) number) (at + 5) 0) (at + 6) 0) (at + 7) 0
-    ≡ take at list ++ (recordOf attention bit id number ++ drop (at + 8) list)
-record-put list at attention bit id number l ha hb hi hn =
-    let vs : List ℕ = attention ∷ bit ∷ id / 256 ∷ id % 256 ∷ number ∷ 0 ∷ 0 ∷ 0 ∷ [] in
+pub record-put : (list : List ℕ) (at attention h bit : ℕ) → at + 16 ≤ length list → attention < 256 → h < 0x1_0000_0000_0000_0000 → bit < 256
+    → set (set (set (set (set (set (set (set (set (set (set (set (set (set (set (set list at (h / 0x100_0000_0000_0000)) (at + 1) (h / 0x1_0000_0000_0000 % 256)) (at + 2) (h / 0x100_0000_0000 % 256)) (at + 3) (h / 0x1_0000_0000 % 256))
+    (at + 4) attention) (at + 5) bit) (at + 6) (h / 0x1_0000 % 256)) (at + 7) (h / 256 % 256)) (at + 8) (h % 256)) (at + 9) (h / 0x100_0000 % 256)) (at + 10) 0) (at + 11) 0) (at + 12) 0) (at + 13) 0) (at + 14) 0) (at + 15) 0
+    ≡ take at list ++ (headRecord attention h bit ++ drop (at + 16) list)
+record-put list at attention h bit l ha hh hb =
+    let vs : List ℕ =
+    h / 0x100_0000_0000_0000 ∷ h / 0x1_0000_0000_0000 % 256 ∷ h / 0x100_0000_0000 % 256 ∷ h / 0x1_0000_0000 % 256 ∷ attention ∷ bit
+    ∷ h / 0x1_0000 % 256 ∷ h / 256 % 256 ∷ h % 256 ∷ h / 0x100_0000 % 256 ∷ 0 ∷ 0 ∷ 0 ∷ 0 ∷ 0 ∷ 0 ∷ [] in
     let e1 : at + 1 ≡ suc at = omega arith in
     let e2 : at + 2 ≡ suc (suc at) = omega arith in
     let e3 : at + 3 ≡ suc (suc (suc at)) = omega arith in
@@ -146,4 +130,13 @@ record-put list at attention bit id number l ha hb hi hn =
     let e5 : at + 5 ≡ suc (suc (suc (suc (suc at)))) = omega arith in
     let e6 : at + 6 ≡ suc (suc (suc (suc (suc (suc at))))) = omega arith in
     let e7 : at + 7 ≡ suc (suc (suc (suc (suc (suc (suc at)))))) = omega arith in
-    rw (e1, e2, e3, e4, e5, e6, e7, ← record-is attention bit id number ha hb hi hn) (sets-eq vs list at l ∙ append-assoc (take at list) vs (drop (at + 8) list))
+    let e8 : at + 8 ≡ suc (suc (suc (suc (suc (suc (suc (suc at))))))) = omega arith in
+    let e9 : at + 9 ≡ suc (suc (suc (suc (suc (suc (suc (suc (suc at)))))))) = omega arith in
+    let e10 : at + 10 ≡ suc (suc (suc (suc (suc (suc (suc (suc (suc (suc at))))))))) = omega arith in
+    let e11 : at + 11 ≡ suc (suc (suc (suc (suc (suc (suc (suc (suc (suc (suc at)))))))))) = omega arith in
+    let e12 : at + 12 ≡ suc (suc (suc (suc (suc (suc (suc (suc (suc (suc (suc (suc at))))))))))) = omega arith in
+    let e13 : at + 13 ≡ suc (suc (suc (suc (suc (suc (suc (suc (suc (suc (suc (suc (suc at)))))))))))) = omega arith in
+    let e14 : at + 14 ≡ suc (suc (suc (suc (suc (suc (suc (suc (suc (suc (suc (suc (suc (suc at))))))))))))) = omega arith in
+    let e15 : at + 15 ≡ suc (suc (suc (suc (suc (suc (suc (suc (suc (suc (suc (suc (suc (suc (suc at)))))))))))))) = omega arith in
+    rw (e1, e2, e3, e4, e5, e6, e7, e8, e9, e10, e11, e12, e13, e14, e15, ← record-is attention h bit ha hh hb)
+    (sets-eq vs list at l ∙ append-assoc (take at list) vs (drop (at + 16) list))

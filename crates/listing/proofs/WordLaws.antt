@@ -3,7 +3,7 @@ use mathlib.Core.Path.{_≡_, refl, sym, ap, _∙_}
 use mathlib.Core.Bool.{Bool, true, false, cond, _&&_, _||_}
 use mathlib.Core.List.{List, [], _∷_, _++_, map, append-nil}
 use mathlib.Core.Logic.{⊎-elim}
-use Prim.Native.Nat.{ℕ, zero, suc, _+_, _*_, _≤_, _<_}
+use Prim.Native.Nat.{ℕ, zero, suc, _+_, _*_, _^_, _≤_, _<_}
 use native.Mathlib.Nat.{add-zero}
 use native.Mathlib.Numerals.{add-one}
 use native.Mathlib.Omega.{arith}
@@ -13,12 +13,13 @@ use lib.Dec.{eqb, ltb}
 use lib.ListN.{length, getD, length-append, length-map}
 use Rattle.numbers.specs.Bits.{Bits, bitOf, digit, wordOf}
 use Rattle.numbers.specs.NextBit.{withBit}
-use Rattle.numbers.proofs.BitsLaws.{word-ext, word-zero, bit-word, zero-bit}
+use Rattle.numbers.proofs.BitsLaws.{word-ext, word-zero, word-bits, bit-word, zero-bit}
 use Rattle.numbers.proofs.Bools.{either, and-none, same?}
 use Rattle.graph.specs.Chains.{Graph, link, listable, below, kept}
+use Rattle.graph.proofs.BelowLaws.{below-length}
 use Rattle.format.specs.Lookup.{gathered}
-use Rattle.listing.specs.Rows.{bitsTo, isDone, rowLinks, listedWord, rowWord, setTo, bitRecords, keyId, keyNumber, wordRecords, rowRecords}
-use Rattle.listing.proofs.RowsLaws.{kept-append}
+use Rattle.listing.specs.Rows.{bitsTo, isDone, rowLinks, listedWord, rowWord, setTo, headOf, bitRecords, wordRecords, rowRecords}
+use Rattle.listing.proofs.RowsLaws.{kept-append, kept-few}
 
 -- Bit after bit
 
@@ -93,6 +94,10 @@ ones-kept (suc n) p =
 
 -- The bits of a word
 
+pub set-ones : (word : ℕ) → word < 2 ^ 64 → ones word ≡ length (setTo word 64)
+unfolding setTo
+set-ones word l = ap ones (sym (word-bits 64 word l)) ∙ ones-kept 64 (bitOf 64 word)
+
 module _ (word : ℕ) where
   pub set-more : (b : ℕ) → bitOf 64 word b ≡ true → setTo word (b + 1) ≡ setTo word b ++ (b ∷ [])
   unfolding setTo kept
@@ -120,9 +125,13 @@ unfolding below kept
 kept-nothing zero = refl
 kept-nothing (suc n) = kept-append (λ i. false) (below n) (n ∷ []) ∙ rw (kept-nothing n)
 
-set-none : setTo 0 64 ≡ []
+pub set-none : setTo 0 64 ≡ []
 unfolding setTo
 set-none = kept-same (bitOf 64 0) (λ i. false) 64 (λ i l. zero-bit 64 i) ∙ kept-nothing 64
+
+pub set-few : (word : ℕ) → length (setTo word 64) ≤ 64
+unfolding setTo
+set-few word = omega (arith, kept-few (bitOf 64 word) (below 64), below-length 64)
 
 -- Those of the word of listed bits are the listed bits.
 set-listed : (g : Graph) (i : ℕ) → setTo (listedWord g i) 64 ≡ bitsTo g i 64
@@ -131,17 +140,13 @@ set-listed g i = kept-same (bitOf 64 (wordOf 64 (listable g i))) (listable g i) 
 
 -- The word of a node instance
 
-listed-ones : (g : Graph) (i : ℕ) → ones (listedWord g i) ≡ length (bitsTo g i 64)
-unfolding listedWord bitsTo
-listed-ones g i = ones-kept 64 (listable g i)
-
-none-ones : ones 0 ≡ 0
-unfolding ones onesIn
-none-ones = refl
-
-no-records : (attention id number : ℕ) → bitRecords attention id number [] ≡ []
+no-records : (attention h : ℕ) → bitRecords attention h [] ≡ []
 unfolding bitRecords gathered
-no-records attention id number = refl
+no-records attention h = refl
+
+pub word-none : (attention h : ℕ) → wordRecords attention h 0 ≡ []
+unfolding wordRecords
+word-none attention h = rw set-none (no-records attention h)
 
 module _ (g : Graph) (marks : List ℕ) (i : ℕ) where
   pub row-yes : {t : Bool} {word : ℕ} → t ≡ isDone marks i → t ≡ true → word ≡ listedWord g i → word ≡ rowWord g marks i
@@ -152,14 +157,6 @@ module _ (g : Graph) (marks : List ℕ) (i : ℕ) where
   unfolding rowWord
   row-no e d = rw (sym e ∙ d)
 
-  pub row-ones : {word : ℕ} → word ≡ rowWord g marks i → ones word ≡ length (rowLinks g marks i)
-  unfolding rowWord rowLinks
-  row-ones e = ap ones e ∙ go (isDone marks i)
-    where
-      go : (t : Bool) → ones (cond t (listedWord g i) 0) ≡ length (cond t (map (link i) (bitsTo g i 64)) [])
-      go true = rw length-map (listed-ones g i)
-      go false = none-ones
-
   pub row-set : {word : ℕ} → word ≡ rowWord g marks i → length (setTo word 64) ≡ length (rowLinks g marks i)
   unfolding rowWord rowLinks
   row-set e = ap (λ x. length (setTo x 64)) e ∙ go (isDone marks i)
@@ -168,12 +165,12 @@ module _ (g : Graph) (marks : List ℕ) (i : ℕ) where
       go true = rw (length-map, set-listed g i)
       go false = ap length set-none
 
-pub row-records : (attention : ℕ) (keys : List ℕ) (g : Graph) (marks : List ℕ) (i : ℕ) {word : ℕ} → word ≡ rowWord g marks i
-    → wordRecords attention keys i word ≡ rowRecords attention keys g marks i
+pub row-records : (model slot attention : ℕ) (keys : List ℕ) (g : Graph) (marks : List ℕ) (i : ℕ) {word : ℕ} → word ≡ rowWord g marks i
+    → wordRecords attention (headOf model slot (getD keys i 0)) word ≡ rowRecords model slot attention keys g marks i
 unfolding rowWord rowRecords wordRecords
-row-records attention keys g marks i e = ap (wordRecords attention keys i) e ∙ go (isDone marks i)
+row-records model slot attention keys g marks i e = ap (wordRecords attention (headOf model slot (getD keys i 0))) e ∙ go (isDone marks i)
   where
-    go : (t : Bool) → bitRecords attention (keyId (getD keys i 0)) (keyNumber (getD keys i 0)) (setTo (cond t (listedWord g i) 0) 64)
-        ≡ cond t (bitRecords attention (keyId (getD keys i 0)) (keyNumber (getD keys i 0)) (bitsTo g i 64)) []
+    go : (t : Bool) → bitRecords attention (headOf model slot (getD keys i 0)) (setTo (cond t (listedWord g i) 0) 64)
+        ≡ cond t (bitRecords attention (headOf model slot (getD keys i 0)) (bitsTo g i 64)) []
     go true = rw (set-listed g i)
-    go false = rw set-none (no-records attention (keyId (getD keys i 0)) (keyNumber (getD keys i 0)))
+    go false = rw set-none (no-records attention (headOf model slot (getD keys i 0)))

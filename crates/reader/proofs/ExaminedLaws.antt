@@ -254,6 +254,7 @@ module _ (of : LimitSet) (s : List ℕ) (bytes : Bytes s) (l : Layout) (w : done
         end = l .end;
         accepted = v;
         whole = w;
+        model = ap (λ x. x .model) (whole-out (limitsOf of) s w .parts .summed);
         registers = laid-is .registerCount;
         nodes = laid-is .nodeCount;
         roots = laid-is .roots;

@@ -50,6 +50,7 @@ pub record Examined (of : LimitSet) (s : List ℕ) (l : Layout) (keys index name
   pub end : ℕ
   pub accepted : verdict (limitsOf of) s ≡ done chip end
   pub whole : done (laidOut l) (l .end) ≡ wholeAt (limitsOf of) s
+  pub model : l .model ≡ chip .model
   pub registers : l .«register_instances» ≡ length (registerEntries chip)
   pub nodes : l .«node_instances» ≡ length (nodeEntries chip)
   pub roots : rootsAt s true (l .«roots_at») ≡ done (chip .roots) end

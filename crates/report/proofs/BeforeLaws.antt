@@ -7,8 +7,8 @@ use Rattle.format.specs.NodeLayout.{instanceHeadAt, nodeInstanceAt, nodeAt, nod
 use Rattle.format.specs.RegisterLayout.{registerInstanceAt, registerAt, registersAt}
 use Rattle.format.specs.Verdict.{verdict}
 use Rattle.report.specs.Before.{registerInstanceBefore, registerBefore, registersBefore, instanceHeadBefore, nodeInstanceBefore, nodeBefore, nodesBefore, fileBefore, verdictBefore, reportBefore}
-use Rattle.report.specs.Report.{isolateFile, report}
+use Rattle.report.specs.Report.{findFile, isolateFile, report}
 
 pub report-before : (file : List ℕ) (attention : ℕ) (readings : List ℕ) → report file attention readings ≡ reportBefore file attention readings
-unfolding registerInstanceAt registerAt registersAt instanceHeadAt nodeInstanceAt nodeAt nodesAt fileAt verdict isolateFile report registerInstanceBefore registerBefore registersBefore instanceHeadBefore nodeInstanceBefore nodeBefore nodesBefore fileBefore verdictBefore reportBefore
+unfolding registerInstanceAt registerAt registersAt instanceHeadAt nodeInstanceAt nodeAt nodesAt fileAt verdict findFile isolateFile report registerInstanceBefore registerBefore registersBefore instanceHeadBefore nodeInstanceBefore nodeBefore nodesBefore fileBefore verdictBefore reportBefore
 report-before file attention readings = refl

@@ -21,9 +21,9 @@ use Rattle.graph.specs.Chains.{silent, nothingBelow, linked, reachedFrom, lista
 use Rattle.graph.specs.Paths.{reachedIn, reached, onCycle}
 use Rattle.format.specs.Finding.{firstOf, ruleFor, rootFor, childFor, childPosition}
 use Rattle.isolation.specs.ChipGraph.{ruleUnread, ruleActive, entryActive, entryChild, chipGraph}
-use Rattle.isolation.specs.Outcome.{entryUnread, reachedUnread, listOutcome, allRead, fromRoot, isolateIn, isolate}
+use Rattle.isolation.specs.Outcome.{entryUnread, reachedUnread, foundFrom, allRead, fromRoot, findIn, find, written, inList, isolate}
 use Rattle.isolation.specs.Readings.{readingsFit, hasValue, wordFor, unreadFaults}
-use Rattle.listing.specs.Records.{recordSize, recordOf, recordBytes, listing, linkRecord, recordsOf}
+use Rattle.listing.specs.Records.{recordSize, bitBytes, recordOf, recordBytes, listing, linkRecord, recordsOf}
 use Rattle.numbers.specs.BigEndian.{bigEndian, bytesOf}
 use Rattle.numbers.specs.Bits.{bitOf, wordOf, notBits, andBits, orBits, leftBits, rightBits}
 use Rattle.numbers.specs.Field.{present, field}
@@ -31,7 +31,7 @@ use Rattle.tables.specs.Tables.{keyOf}
 use Rattle.readings.specs.ReadingsFile.{readByte, valueIn, recordFits, recordsFit, fileFits, eachRecord}
 use Rattle.isolation.specs.Samples as calls
 use Rattle.isolation.proofs.SamplesHold as calls-hold
-use Rattle.report.specs.Report.{fileFromRoot, isolateFileIn, isolateFile, stationList, report}
+use Rattle.report.specs.Report.{fileFromRoot, findFileIn, findFile, isolateFile, stationList, report}
 use Rattle.report.specs.Text.{spelled, decimal, typeWord, nodeWord, instWord, bitWord, stepsWord, refusedWord, placeWord, lineEnd, named, bitLine, recordLine, recordLines, stepsLine, refusedLine, textOf}
 use Rattle.report.specs.Samples.{Row, AllHold, called, reading, found, unknown, prints, samples}
 
@@ -40,5 +40,5 @@ called-hold [] rest h k = k
 called-hold (r ∷ rs) rest h k = (h .0, called-hold rs rest (h .1) k)
 
 pub samples-hold : AllHold samples
-unfolding leads childEdge OnCycle cyclesFrom cycleFaults operationOf readingAt operandsAt shiftedAt bodyAt exprAt fieldAt same keywordAt countAt knownType typeAt addressSize knownFlags flagsAt readable knownAttention attentionAt member fresh startAt rootAt rootsAt fileAt levels chipdata regs node root some position at gathered entriesOf registerEntries registerNamed nodeEntriesOf nodeEntries nodeNamed registerPosition nodePosition valueWithin bitsWithin captureAt ruleAt childAt instanceHeadAt nodeInstanceAt nodeTotal nodeHeadAt nodeAt nodesAt andThen making require requiring rowAt unless fits hasRule hasRegister hasRegisterThat registerFaults hasNode captureFaults namedFaults ruleFaults childFaults instanceFaults rootFaults referenceFaults namedBy registerTotal registerInstanceAt registerHeadAt registerAt registersAt b1 gather judged verdict checkOf check any count silent nothingBelow linked reachedFrom listable listed below kept listedOf reachedCount reachedIn reached onCycle firstOf ruleFor rootFor childFor ruleUnread ruleActive entryActive childPosition entryChild chipGraph entryUnread reachedUnread listOutcome allRead fromRoot isolateIn isolate readingsFit hasValue wordFor unreadFaults recordSize recordOf recordBytes listing linkRecord recordsOf bigEndian bytesOf bitOf wordOf notBits andBits orBits leftBits rightBits present field keyOf readByte valueIn recordFits recordsFit fileFits eachRecord fileFromRoot isolateFileIn isolateFile stationList report spelled decimal typeWord nodeWord instWord bitWord stepsWord refusedWord placeWord lineEnd named bitLine recordLine recordLines stepsLine refusedLine textOf reading found unknown
+unfolding leads childEdge OnCycle cyclesFrom cycleFaults operationOf readingAt operandsAt shiftedAt bodyAt exprAt fieldAt same keywordAt countAt knownType typeAt addressSize knownFlags flagsAt readable knownAttention attentionAt member fresh startAt rootAt rootsAt fileAt levels chipdata regs node root some position at gathered entriesOf registerEntries registerNamed nodeEntriesOf nodeEntries nodeNamed registerPosition nodePosition valueWithin bitsWithin captureAt ruleAt childAt instanceHeadAt nodeInstanceAt nodeTotal nodeHeadAt nodeAt nodesAt andThen making require requiring rowAt unless fits hasRule hasRegister hasRegisterThat registerFaults hasNode captureFaults namedFaults ruleFaults childFaults instanceFaults rootFaults referenceFaults namedBy registerTotal registerInstanceAt registerHeadAt registerAt registersAt b1 gather judged verdict checkOf check any count silent nothingBelow linked reachedFrom listable listed below kept listedOf reachedCount reachedIn reached onCycle firstOf ruleFor rootFor childFor ruleUnread ruleActive entryActive childPosition entryChild chipGraph entryUnread reachedUnread foundFrom allRead fromRoot findIn find written inList isolate readingsFit hasValue wordFor unreadFaults recordSize bitBytes recordOf recordBytes listing linkRecord recordsOf bigEndian bytesOf bitOf wordOf notBits andBits orBits leftBits rightBits present field keyOf readByte valueIn recordFits recordsFit fileFits eachRecord fileFromRoot findFileIn findFile isolateFile stationList report spelled decimal typeWord nodeWord instWord bitWord stepsWord refusedWord placeWord lineEnd named bitLine recordLine recordLines stepsLine refusedLine textOf reading found unknown
 samples-hold = called-hold calls.samples prints calls-hold.samples-hold (refl, (refl, tt))

@@ -20,17 +20,17 @@ use Rattle.tables.specs.Tables.{keyOf}
 use Rattle.tables.specs.Keys.{registerKeys}
 use Rattle.readings.specs.ReadingsFile.{fileFits}
 use Rattle.format.specs.Finding.{rootFor}
-use Rattle.isolation.specs.Outcome.{refusedOutcome}
-use Rattle.listing.specs.Records.{recordOf}
-use Rattle.report.specs.Report.{fileFromRoot, isolateFileIn, isolateFile, stationList, report}
+use Rattle.isolation.specs.Outcome.{stopped, inList}
+use Rattle.listing.specs.Records.{bitBytes, recordOf}
+use Rattle.report.specs.Report.{fileFromRoot, findFileIn, findFile, isolateFile, stationList, report}
 use Rattle.report.specs.Text.{textOf, bitLine, recordLine}
 use Rattle.report.proofs.FileLaws.{meets}
 
 -- The line of a record.
-pub record-line : (attention bit id number : ℕ) (rest : List ℕ) → attention < 256 → bit < 256 → id < 65536 → number < 256
-    → recordLine (recordOf attention bit id number ++ rest) ≡ bitLine attention id number bit
-unfolding recordLine recordOf bytesOf field bigEndian
-record-line attention bit id number rest a b i n =
+pub record-line : (model slot attention bit id number : ℕ) (rest : List ℕ) → attention < 256 → bit < 256 → id < 65536 → number < 256
+    → recordLine (recordOf model slot attention bit id number ++ rest) ≡ bitLine attention id number bit
+unfolding recordLine recordOf bitBytes bytesOf field bigEndian
+record-line model slot attention bit id number rest a b i n =
     let e : attention / 1 % 256 * 1 + 0 ≡ attention = omega arith in
     let f : bit / 1 % 256 * 1 + 0 ≡ bit = omega arith in
     let g : id / 256 % 256 * 256 + (id / 1 % 256 * 1 + 0) ≡ id = omega arith in
@@ -65,37 +65,38 @@ no-fit : (keys bytes : List ℕ) → length keys ≤ programLimits .registerInst
 unfolding fileFits
 no-fit keys bytes few h = rw (ne-eqb (length bytes) (16 * length keys) (λ e. omega (arith, e)))
 
-no-fit-root : (c : Chip) (attention : ℕ) (bytes list : List ℕ) (t : Root) (ts : List Root) → fileFits (registerKeys c) bytes ≡ false → fileFromRoot c attention bytes list (t ∷ ts) ≡ refusedOutcome 17 0 list
+no-fit-root : (c : Chip) (attention : ℕ) (bytes : List ℕ) (t : Root) (ts : List Root) → fileFits (registerKeys c) bytes ≡ false → fileFromRoot c attention bytes (t ∷ ts) ≡ stopped 17 0
 unfolding fileFromRoot
-no-fit-root c attention bytes list t ts e = rw e
+no-fit-root c attention bytes t ts e = rw e
 
 -- Its first bytes decide.
-module _ (c : Chip) (few : length (registerKeys c) ≤ programLimits .registerInstances) (attention : ℕ) (bytes list : List ℕ) where
-  root-front : (ts : List Root) → readingsFront < length bytes → fileFromRoot c attention (take readingsFront bytes) list ts ≡ fileFromRoot c attention bytes list ts
+module _ (c : Chip) (few : length (registerKeys c) ≤ programLimits .registerInstances) (attention : ℕ) (bytes : List ℕ) where
+  root-front : (ts : List Root) → readingsFront < length bytes → fileFromRoot c attention (take readingsFront bytes) ts ≡ fileFromRoot c attention bytes ts
   unfolding fileFromRoot
   root-front [] h = refl
   root-front (t ∷ ts) h =
       let l : length (take readingsFront bytes) ≡ readingsFront = length-take-le readingsFront bytes (omega arith) in
-      no-fit-root c attention (take readingsFront bytes) list t ts (no-fit (registerKeys c) (take readingsFront bytes) few (omega arith))
-      ∙ sym (no-fit-root c attention bytes list t ts (no-fit (registerKeys c) bytes few (omega arith)))
+      no-fit-root c attention (take readingsFront bytes) t ts (no-fit (registerKeys c) (take readingsFront bytes) few (omega arith))
+      ∙ sym (no-fit-root c attention bytes t ts (no-fit (registerKeys c) bytes few (omega arith)))
 
-  readings-front : (end : ℕ) → isolateFileIn attention (take readingsFront bytes) list (done c end) ≡ isolateFileIn attention bytes list (done c end)
-  unfolding isolateFileIn
+  readings-front : (end : ℕ) → findFileIn attention (take readingsFront bytes) (done c end) ≡ findFileIn attention bytes (done c end)
+  unfolding findFileIn
   readings-front end = go (leb (length bytes) readingsFront) refl
     where
       go : (b : Bool) → leb (length bytes) readingsFront ≡ b
-          → isolateFileIn attention (take readingsFront bytes) list (done c end) ≡ isolateFileIn attention bytes list (done c end)
-      go true e = ap (λ u. isolateFileIn attention u list (done c end)) (take-all readingsFront bytes (leb-true _ _ e))
-      go false e = ap (λ o. cond (knownAttention attention) o (refusedOutcome 15 0 list)) (root-front (rootFor attention c) (leb-false _ _ e))
+          → findFileIn attention (take readingsFront bytes) (done c end) ≡ findFileIn attention bytes (done c end)
+      go true e = ap (λ u. findFileIn attention u (done c end)) (take-all readingsFront bytes (leb-true _ _ e))
+      go false e = ap (λ o. cond (knownAttention attention) o (stopped 15 0)) (root-front (rootFor attention c) (leb-false _ _ e))
 
 -- The program reads as many bytes of its files as decide, so that a longer file is seen to be longer.
 pub first-bytes : (file : List ℕ) → Bytes file → (attention : ℕ) (readings : List ℕ)
     → report (take chipFront file) attention (take readingsFront readings) ≡ report file attention readings
-unfolding report isolateFile isolateFileIn
+unfolding report isolateFile findFile findFileIn
 first-bytes file bytes attention readings =
-    ap (λ q. textOf (isolateFileIn attention (take readingsFront readings) stationList q)) (chip-front file) ∙ ap textOf (go (verdict programLimits file) refl)
+    ap (λ q. textOf (inList stationList (findFileIn attention (take readingsFront readings) q))) (chip-front file)
+    ∙ ap (λ o. textOf (inList stationList o)) (go (verdict programLimits file) refl)
   where
-    go : (q : Parsed Chip) → verdict programLimits file ≡ q → isolateFileIn attention (take readingsFront readings) stationList q ≡ isolateFileIn attention readings stationList q
+    go : (q : Parsed Chip) → verdict programLimits file ≡ q → findFileIn attention (take readingsFront readings) q ≡ findFileIn attention readings q
     go (done c end) v =
-        readings-front c (omega (arith, length-map (registerEntries c) (λ e. keyOf (e .id) (e .instance .number)), meets programLimits file bytes v .within .registers)) attention readings stationList end
+        readings-front c (omega (arith, length-map (registerEntries c) (λ e. keyOf (e .id) (e .instance .number)), meets programLimits file bytes v .within .registers)) attention readings end
     go (refused n p) v = refl

@@ -14,7 +14,8 @@ use Rattle.format.specs.References.{referenceFaults}
 use Rattle.format.specs.RegisterLayout.{registerHeadAt, registerTotal}
 use Rattle.format.specs.Tree.{RegisterInstance, Register, NodeInstance, Node, Chip}
 use Rattle.format.specs.Verdict.{judged}
-use Rattle.report.specs.Report.{isolateFileIn, stationList}
+use Rattle.isolation.specs.Outcome.{inList}
+use Rattle.report.specs.Report.{findFileIn, stationList}
 use Rattle.report.specs.Text.{textOf}
 
 unfoldable pub registerInstanceBefore : List ℕ → ℕ → ℕ → List RegisterInstance → ℕ → Parsed RegisterInstance
@@ -65,4 +66,4 @@ verdictBefore s =
 
 -- What the station printed.
 unfoldable pub reportBefore : List ℕ → ℕ → List ℕ → List ℕ
-reportBefore file attention readings = textOf (isolateFileIn attention readings stationList (verdictBefore file))
+reportBefore file attention readings = textOf (inList stationList (findFileIn attention readings (verdictBefore file)))

@@ -11,29 +11,33 @@ use Rattle.format.specs.Verdict.{verdict}
 use Rattle.tables.specs.Keys.{registerKeys}
 use Rattle.readings.specs.ReadingsFile.{fileFits, wordsOf, readOf}
 use Rattle.format.specs.Finding.{rootFor}
-use Rattle.isolation.specs.Outcome.{Outcome, refusedOutcome, fromRoot}
+use Rattle.isolation.specs.Outcome.{Outcome, Findings, stopped, fromRoot, inList}
 use Rattle.report.specs.Text.{textOf}
 
--- A readings file in place of readings. 17: "for the readings file also a wrong size, ID, instance, zero byte or unread value"; 16 comes before it.
-unfoldable pub fileFromRoot : Chip → ℕ → List ℕ → List ℕ → List Root → Outcome
-fileFromRoot c attention readings list [] = refusedOutcome 16 0 list
-fileFromRoot c attention readings list (t ∷ ts) =
+-- A readings file in place of readings. 17: "for the readings file also a wrong size, ID, instance, zero byte or unread value"; 16 comes before it. The chip has slot 0.
+unfoldable pub fileFromRoot : Chip → ℕ → List ℕ → List Root → Findings
+fileFromRoot c attention readings [] = stopped 16 0
+fileFromRoot c attention readings (t ∷ ts) =
     cond (fileFits (registerKeys c) readings)
-    (fromRoot c attention (wordsOf (registerKeys c) readings) (readOf (registerKeys c) readings) list (t ∷ ts))
-    (refusedOutcome 17 0 list)
+    (fromRoot c 0 attention (wordsOf (registerKeys c) readings) (readOf (registerKeys c) readings) (t ∷ ts))
+    (stopped 17 0)
 
-unfoldable pub isolateFileIn : ℕ → List ℕ → List ℕ → Parsed Chip → Outcome
-isolateFileIn attention readings list (refused n p) = refusedOutcome n p list
-isolateFileIn attention readings list (done c end) =
-    cond (knownAttention attention) (fileFromRoot c attention readings list (rootFor attention c)) (refusedOutcome 15 0 list)
+unfoldable pub findFileIn : ℕ → List ℕ → Parsed Chip → Findings
+findFileIn attention readings (refused n p) = stopped n p
+findFileIn attention readings (done c end) =
+    cond (knownAttention attention) (fileFromRoot c attention readings (rootFor attention c)) (stopped 15 0)
 
--- Isolation of a chip data file with a readings file, by the limits that hold.
+-- What isolation finds in a chip data file with a readings file, by the limits that hold.
+unfoldable pub findFile : Limits → List ℕ → ℕ → List ℕ → Findings
+findFile limits file attention readings = findFileIn attention readings (verdict limits file)
+
+-- The answer by a list.
 unfoldable pub isolateFile : Limits → List ℕ → ℕ → List ℕ → List ℕ → Outcome
-isolateFile limits file attention readings list = isolateFileIn attention readings list (verdict limits file)
+isolateFile limits file attention readings list = inList list (findFile limits file attention readings)
 
 -- "Its list holds 4,096 records."
 unfoldable pub stationList : List ℕ
-stationList = replicate 32768 0
+stationList = replicate 65536 0
 
 -- What the station prints for a file, a type and a readings file. "The program keeps 01's limits for bytes and instances and refuses by 1 and 8 there" (document 02, x).
 unfoldable pub report : List ℕ → ℕ → List ℕ → List ℕ

@@ -53,9 +53,9 @@ unfoldable pub bitLine : ℕ → ℕ → ℕ → ℕ → List ℕ
 bitLine attention id number bit =
     named typeWord attention ++ (named nodeWord id ++ (named instWord number ++ (named bitWord bit ++ lineEnd)))
 
--- The line of the record that some bytes begin with: "attention type, bit, node ID (2), instance, three zeros".
+-- The line of the record that some bytes begin with: "model/level (4), attention type, bit, node ID (2), instance, slot, six zeros". Neither the model nor the slot is printed.
 unfoldable pub recordLine : List ℕ → List ℕ
-recordLine r = bitLine (field r 0 1) (field r 2 2) (field r 4 1) (field r 1 1)
+recordLine r = bitLine (field r 4 1) (field r 6 2) (field r 8 1) (field r 5 1)
 
 -- The lines of the first n records of a list.
 unfoldable pub recordLines : ℕ → List ℕ → List ℕ

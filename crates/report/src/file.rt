@@ -57,7 +57,7 @@ fn decode_named(readings: &[u8], keys: &[u64], words: &mut [u64], read: &mut [u8
     }
 }
 
-// The answer for an accepted file, by its tables as the reader fills them and a readings file, which is decoded to `words` and `read`. No readings do not fit: a file has a register instance. Where a table has no place for each instance, 43 at 0.
+// The answer for an accepted file, by its tables as the reader fills them and a readings file, which is decoded to `words` and `read`. No readings do not fit: a file has a register instance. Where a table has no place for each instance, 43 at 0. What `places` then holds is free.
 fn isolate_named(
     file: &[u8],
     l: Layout,
@@ -67,7 +67,7 @@ fn isolate_named(
     index: &[u16],
     keys: &[u64],
     names: &[u64],
-    places: &[u64],
+    places: &mut [u64],
     child: &[u16],
     active: &mut [u64],
     unread: &mut [u64],

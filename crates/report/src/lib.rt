@@ -81,26 +81,26 @@ fn put_line(
 
 // The line of the record at a place of the list.
 fn put_record(text: &mut [u8], at: usize, list: &[u8], from: usize) -> usize
-    requires { ⌜ (at ≤ 0x10000000) × (from + 8 ≤ length (now list)) ⌝ }
+    requires { ⌜ (at ≤ 0x10000000) × (from + 16 ≤ length (now list)) ⌝ }
     ensures { λ r. ⌜ Put (now (text .entry)) at (recordLine (drop from (now (list .entry)))) (now (text .exit)) r ⌝ }
 {
-    let attention = list[from];
-    let bit = list[from + 1];
-    let high = list[from + 2];
-    let low = list[from + 3];
-    let number = list[from + 4];
+    let attention = list[from + 4];
+    let bit = list[from + 5];
+    let high = list[from + 6];
+    let low = list[from + 7];
+    let number = list[from + 8];
     put_line(text, at, attention, high, low, number, bit)
 }
 
 // The lines of the first records of a list.
 fn put_records(text: &mut [u8], list: &[u8], records: usize) -> usize
-    requires { ⌜ (records ≤ 4096) × (records * 8 ≤ length (now list)) ⌝ }
+    requires { ⌜ (records ≤ 4096) × (records * 16 ≤ length (now list)) ⌝ }
     ensures { λ r. ⌜ Put (now (text .entry)) 0 (recordLines records (now (list .entry))) (now (text .exit)) r ⌝ }
 {
     let mut i = 0;
     let mut at = 0;
     while i < records {
-        at = put_record(text, at, list, i * 8);
+        at = put_record(text, at, list, i * 16);
         i += 1;
     }
     at
@@ -108,7 +108,7 @@ fn put_records(text: &mut [u8], list: &[u8], records: usize) -> usize
 
 // The text of a success.
 fn put_done(text: &mut [u8], list: &[u8], records: usize, steps: usize) -> usize
-    requires { ⌜ (records ≤ 4096) × (records * 8 ≤ length (now list)) ⌝ }
+    requires { ⌜ (records ≤ 4096) × (records * 16 ≤ length (now list)) ⌝ }
     ensures { λ r. ⌜ Put (now (text .entry)) 0 (recordLines records (now (list .entry)) ++ stepsLine steps) (now (text .exit)) r ⌝ }
     ensures { λ r. ⌜ r ≤ 152000 ⌝ }
 {
@@ -129,7 +129,7 @@ fn put_refused(text: &mut [u8], number: u8, place: usize) -> usize
 
 // The text of an answer, by the list that its records stand in.
 fn put_answer(text: &mut [u8], a: Isolated, list: &[u8]) -> usize
-    requires { ⌜ (outcomeOf a (now list) .records ≤ 4096) × (outcomeOf a (now list) .records * 8 ≤ length (now list)) ⌝ }
+    requires { ⌜ (outcomeOf a (now list) .records ≤ 4096) × (outcomeOf a (now list) .records * 16 ≤ length (now list)) ⌝ }
     ensures { λ r. ⌜ Put (now (text .entry)) 0 (textOf (outcomeOf a (now (list .entry)))) (now (text .exit)) r ⌝ }
     ensures { λ r. ⌜ r ≤ 152000 ⌝ }
 {
@@ -160,7 +160,7 @@ fn report_full(file: &[u8], attention: u8, readings: &[u8], text: &mut [u8]) -> 
     ensures { λ r. ⌜ Put (now (text .entry)) 0 (report (now (file .entry)) attention (now (readings .entry))) (now (text .exit)) r ⌝ }
     ensures { λ r. ⌜ r ≤ 152000 ⌝ }
 {
-    let mut list = [0u8; 32768];
+    let mut list = [0u8; 65536];
     let a = isolate_file(file, attention, readings, &mut list);
     put_answer(text, a, &list)
 }
@@ -171,7 +171,7 @@ fn report_short(file: &[u8], attention: u8, readings: &[u8], text: &mut [u8]) ->
     ensures { λ r. ⌜ (r ≡ 0 → now (text .exit) ≡ now (text .entry)) ⌝ }
     ensures { λ r. ⌜ r ≤ 152000 ⌝ }
 {
-    let mut list = [0u8; 1024];
+    let mut list = [0u8; 2048];
     let a = isolate_file(file, attention, readings, &mut list);
     if lacks_room(a) {
         return 0;

@@ -65,22 +65,24 @@ fn byte(s: &[u8], at: usize) -> u64 {
     }
 }
 
-// The number of 2 bytes at a place.
-fn two(s: &[u8], at: usize) -> u64 {
-    let n = number_at(s, at, Width::Two);
+// The number of so many bytes at a place.
+fn wide(s: &[u8], at: usize, width: Width) -> u64 {
+    let n = number_at(s, at, width);
     match n {
         NumberRead::Number(value, _) => value,
         NumberRead::Cut => 0,
     }
 }
 
-// A record of the list: attention type, bit, node ID (2 bytes), instance, three zeros.
+// A record of the list: model/level (4 bytes), attention type, bit, node ID (2 bytes), instance, slot, six zeros.
 fn print_record(sample: &[u8], record: &[u8]) {
     begin_line(sample);
-    print_number(b"type", byte(record, 0));
-    print_number(b"node", two(record, 2));
-    print_number(b"inst", byte(record, 4));
-    print_number(b"bit", byte(record, 1));
+    print_number(b"model", wide(record, 0, Width::Four));
+    print_number(b"type", byte(record, 4));
+    print_number(b"node", wide(record, 6, Width::Two));
+    print_number(b"inst", byte(record, 8));
+    print_number(b"bit", byte(record, 5));
+    print_number(b"slot", byte(record, 9));
     end_line();
 }
 
@@ -89,12 +91,12 @@ fn print_records(sample: &[u8], list: &[u8], records: usize) {
     let mut i = 0;
     let mut at = 0;
     while i < records {
-        if list.len() - at < 8 {
+        if list.len() - at < 16 {
             return;
         }
-        print_record(sample, part(list, at, 8));
+        print_record(sample, part(list, at, 16));
         i += 1;
-        at += 8;
+        at += 16;
     }
 }
 
@@ -116,7 +118,7 @@ pub fn print_check(sample: &[u8], file: &[u8]) {
 
 // The answer of isolation, with a list of 32 records.
 pub fn print_isolation(sample: &[u8], file: &[u8], attention: u8, words: &[u64], read: &[u8]) {
-    let mut list = [0u8; 256];
+    let mut list = [0u8; 512];
     let a = isolate(file, attention, words, read, &mut list);
     match a {
         Isolated::Done(i) => {

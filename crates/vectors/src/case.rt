@@ -1,4 +1,17 @@
 // One case: its form, the call that it asks for, and whether the answer is the expected one.
+use crate::answers::RECORD;
+use crate::answers::agrees;
+use crate::answers::list_agrees;
+use crate::answers::outcome;
+use crate::answers::refused;
+use crate::boards::board_met;
+use crate::boards::has_few_lengths;
+use crate::boards::lengths;
+use crate::lent::MOST_LIST;
+use crate::lent::MOST_WORDS;
+use crate::lent::fill;
+use crate::lent::fill_words;
+use crate::lent::some_words;
 use crate::lines::case_line;
 use crate::parts::byte;
 use crate::parts::eight;
@@ -13,9 +26,6 @@ use crate::tally::count;
 use check::same;
 use format::Address;
 use format::Checked;
-use format::Refusal;
-use format::number;
-use isolation::Isolated;
 use isolation::isolate;
 use reader::address::address;
 use reader::address::address_part;
@@ -27,11 +37,6 @@ const START: usize = 16;
 
 const HEAD: usize = 56;
 
-// The most words and read bytes of a case, and the most bytes of its list.
-const MOST_WORDS: usize = 1_100;
-
-const MOST_LIST: usize = 33_000;
-
 // The kinds of case.
 const CHECK: u8 = 1;
 
@@ -39,11 +44,7 @@ const ADDRESS: u8 = 2;
 
 const ISOLATION: u8 = 3;
 
-// A refusal as a case has it: its number and its place, and six zeros.
-fn refused(r: Refusal) -> [u64; 8] {
-    let kind = r.kind;
-    [number(kind) as u64, r.place as u64, 0, 0, 0, 0, 0, 0]
-}
+const BOARD: u8 = 4;
 
 // The checker's answer as a case has it.
 fn checked(file: &[u8]) -> [u64; 8] {
@@ -74,75 +75,7 @@ fn queried(file: &[u8], id: u64, instance: u8) -> [u64; 8] {
 
 // The answer of isolation as a case has it.
 fn isolated(file: &[u8], attention: u8, words: &[u64], read: &[u8], list: &mut [u8]) -> [u64; 8] {
-    let a = isolate(file, attention, words, read, list);
-    match a {
-        Isolated::Done(i) => [0, 0, i.records as u64, i.steps as u64, 0, 0, 0, 0],
-        Isolated::Refused(r) => refused(r),
-    }
-}
-
-// Whether the eight values of an answer are those of a case.
-fn agrees(head: &[u8], got: [u64; 8]) -> bool {
-    let mut i = 0;
-    while i < 8 {
-        if four(head, 24 + 4 * i) as u64 != got[i] {
-            return false;
-        }
-        i += 1;
-    }
-    true
-}
-
-// Whether every byte is this one.
-fn full_of(s: &[u8], b: u8) -> bool {
-    let mut i = 0;
-    while i < s.len() {
-        if s[i] != b {
-            return false;
-        }
-        i += 1;
-    }
-    true
-}
-
-// Makes every byte this one.
-fn fill(s: &mut [u8], b: u8) {
-    let mut i = 0;
-    while i < s.len() {
-        s[i] = b;
-        i += 1;
-    }
-}
-
-// The words of a case, 8 bytes each, and zeros after them.
-fn fill_words(bytes: &[u8], words: &mut [u64]) {
-    let mut i = 0;
-    let mut at = 0;
-    while i < words.len() {
-        words[i] = eight(bytes, at);
-        i += 1;
-        at = std::num::wrapping_add_usize(at, 8);
-    }
-}
-
-// So many words from the first on.
-fn first_words(words: &[u64], n: usize) -> &[u64] {
-    if words.len() < n {
-        return &words[0..0];
-    }
-    &words[0..n]
-}
-
-// Whether a list begins with some records, and every byte after these is as it was lent.
-fn list_agrees(list: &[u8], records: &[u8], lent: u8) -> bool {
-    let n = records.len();
-    if list.len() < n {
-        return false;
-    }
-    if !same(part(list, 0, n), records) {
-        return false;
-    }
-    full_of(part(list, n, list.len() - n), lent)
+    outcome(isolate(file, attention, words, read, list))
 }
 
 // Whether the checker answers as a case expects.
@@ -194,16 +127,28 @@ fn list_met(
 fn records(head: &[u8]) -> usize
     ensures { λ r. ⌜ r < 4294967296 ⌝ }
 {
-    if byte(head, 0) == ISOLATION {
+    let kind = byte(head, 0);
+    if kind == ISOLATION || kind == BOARD {
         four(head, 32)
     } else {
         0
     }
 }
 
-// How many bytes a case has after its head: words, read bytes and records.
+// How many numbers of 8 bytes a case has: words, and the lengths of a board.
+fn numbers(head: &[u8]) -> usize
+    ensures { λ r. ⌜ r < 17179869184 ⌝ }
+{
+    if byte(head, 0) == BOARD {
+        four(head, 12) + lengths(head)
+    } else {
+        four(head, 12)
+    }
+}
+
+// How many bytes a case has after its head: numbers, read bytes and records.
 fn body_size(head: &[u8]) -> usize {
-    8 * four(head, 12) + four(head, 16) + 8 * records(head)
+    8 * numbers(head) + four(head, 16) + RECORD * records(head)
 }
 
 // Whether isolation does with the words, the read bytes and the list of a case what the case expects.
@@ -216,9 +161,9 @@ fn isolation_met(head: &[u8], body: &[u8], file: &[u8], tally: &mut [u64]) -> bo
     list_met(
         head,
         file,
-        first_words(&words, w),
+        some_words(&words, 0, w),
         part(body, 8 * w, r),
-        part(body, 8 * w + r, 8 * records(head)),
+        part(body, 8 * w + r, RECORD * four(head, 32)),
         &mut list,
         tally,
     )
@@ -233,6 +178,9 @@ fn met(head: &[u8], body: &[u8], file: &[u8], tally: &mut [u64]) -> bool {
     if kind == ADDRESS {
         return address_met(head, file, eight(body, 0), tally);
     }
+    if kind == BOARD {
+        return board_met(head, body, file, tally);
+    }
     isolation_met(head, body, file, tally)
 }
 
@@ -241,15 +189,15 @@ fn lends_nothing(head: &[u8]) -> bool {
     byte(head, 2) == 0 && four(head, 16) == 0 && four(head, 20) == 0
 }
 
-// Whether a head lends no more than an isolation case may, and a list with room for its records.
+// Whether a head lends no more than a case of isolation or of a board may, and a list with room for its records.
 fn lends_little(head: &[u8]) -> bool {
     four(head, 12) <= MOST_WORDS
         && four(head, 16) <= MOST_WORDS
         && four(head, 20) <= MOST_LIST
-        && four(head, 32) <= four(head, 20) / 8
+        && four(head, 32) <= four(head, 20) / RECORD
 }
 
-// Whether a head has one of the three kinds, and the fields that its kind has not are 0.
+// Whether a head has one of the four kinds, and the fields that its kind has not are 0.
 fn formed(head: &[u8]) -> bool {
     if byte(head, 3) != 0 {
         return false;
@@ -260,6 +208,9 @@ fn formed(head: &[u8]) -> bool {
     }
     if kind == ADDRESS {
         return four(head, 12) == 1 && lends_nothing(head);
+    }
+    if kind == BOARD {
+        return lends_little(head) && has_few_lengths(head);
     }
     kind == ISOLATION && lends_little(head)
 }
@@ -279,7 +230,7 @@ fn no_case(number: usize, why: &[u8]) -> usize {
     0
 }
 
-// The case at a place: it is compared, and the place after it is answered; 0 where no case stands there. Its chip data file is a part of `files`, which is the file of vectors up to the first case.
+// The case at a place: it is compared, and the place after it is answered; 0 where no case stands there. Its chip data file, of a board all its files, is a part of `files`, which is the file of vectors up to the first case.
 pub fn case_met(data: &[u8], files: &[u8], at: usize, number: usize, tally: &mut [u64]) -> usize {
     if data.len() < at {
         return no_case(number, b" is malformed: not wholly there");

@@ -1,4 +1,4 @@
-// Walks a file of vectors, `vectors.bin`, which the reference makes: calls of the checker, the address query and isolation, each with the answer that is expected. It calls the library on each, compares every value and every byte of the list, and prints how many cases there were of each outcome and how many differ.
+// Walks a file of vectors, `vectors.bin`, which the reference makes: calls of the checker, the address query, isolation and the board call, each with the answer that is expected. It calls the library on each, compares every value and every byte of the list, and prints how many cases there were of each outcome and how many differ.
 use crate::case::case_met;
 use crate::lines::malformed;
 use crate::parts::four;
@@ -9,7 +9,10 @@ use check::same;
 ghost use lib.ListN.{length};
 ghost use mathlib.Core.Path.{_≡_};
 
+mod answers;
+mod boards;
 mod case;
+mod lent;
 mod lines;
 mod parts;
 mod tally;

@@ -1,16 +1,18 @@
-// How many cases there were of each outcome: a count for each number from 0, success, to 19, of each kind of case; and how many cases differ.
+// How many cases there were of each outcome: a count for each number from 0, success, to 20, of each kind of case; and how many cases differ.
 use libc::STDOUT_FILENO;
 
 // Where the counts of each kind begin, where the number of cases that differ stands, and how many places there are.
 pub const CHECKS: usize = 0;
 
-pub const ADDRESSES: usize = 20;
+pub const ADDRESSES: usize = 21;
 
-pub const ISOLATIONS: usize = 40;
+pub const ISOLATIONS: usize = 42;
 
-pub const DIFFERENCES: usize = 60;
+pub const BOARDS: usize = 63;
 
-pub const PLACES: usize = 61;
+pub const DIFFERENCES: usize = 84;
+
+pub const PLACES: usize = 85;
 
 // One more of a number, among the counts from a place on.
 pub fn count(tally: &mut [u64], from: usize, number: u64) {
@@ -70,7 +72,8 @@ pub fn print_tally(tally: &[u64]) {
     }
     print_kind(b"check", &tally[CHECKS..ADDRESSES]);
     print_kind(b"address", &tally[ADDRESSES..ISOLATIONS]);
-    print_kind(b"isolation", &tally[ISOLATIONS..DIFFERENCES]);
+    print_kind(b"isolation", &tally[ISOLATIONS..BOARDS]);
+    print_kind(b"board", &tally[BOARDS..DIFFERENCES]);
     io::write_all(STDOUT_FILENO, b"differences ");
     io::print_decimal(STDOUT_FILENO, tally[DIFFERENCES]);
     io::write_all(STDOUT_FILENO, b"\n");

@@ -1,14 +1,15 @@
-//! Cases for all four functions: seeded, and as text.
+//! Cases for all five functions: seeded, and as text.
 
 use std::fmt::Write;
 use std::sync::OnceLock;
 
+use reference::board::Board;
 use reference::generate::{self, Random, Sizes, HIGHEST_NUMBER};
 use reference::{cases, hex, large, report, Accepted, Limits};
 
 use crate::proved::TEXT_BYTES;
 
-/// All that the four functions are lent.
+/// All that the five functions are lent.
 #[derive(Clone, Debug, PartialEq, Eq)]
 pub struct Case {
     /// File, attention type, readings and the length of the list.
@@ -22,6 +23,7 @@ pub struct Case {
     pub readings_file: Vec<u8>,
     /// The length of the report's text.
     pub text: usize,
+    pub board: Board,
 }
 
 impl Case {
@@ -53,6 +55,7 @@ impl Case {
         let readings_file = generate::readings_file(random, &isolation);
         let whole = report(&isolation.file, isolation.attention_type, &readings_file);
         let text = text_length(random, whole.len());
+        let board = board(random, &isolation);
         Case {
             isolation,
             id,
@@ -60,25 +63,40 @@ impl Case {
             places,
             readings_file,
             text,
+            board,
         }
     }
 
     /// One line for each part, as [`Case::from_text`] reads them.
     pub fn to_text(&self) -> String {
         let isolation = &self.isolation;
+        let board = &self.board;
         let mut text = String::new();
-        let words: Vec<u8> = isolation
-            .words
-            .iter()
-            .flat_map(|word| word.to_be_bytes())
-            .collect();
+        let bytes_of = |words: &[u64]| -> Vec<u8> {
+            let bytes = words.iter().flat_map(|word| word.to_be_bytes());
+            bytes.collect()
+        };
         for (name, bytes) in [
             ("file", &isolation.file),
-            ("words", &words),
+            ("words", &bytes_of(&isolation.words)),
             ("read", &isolation.read),
             ("readings", &self.readings_file),
+            ("board-files", &board.files),
+            ("board-words", &bytes_of(&board.words)),
+            ("board-read", &board.read),
         ] {
             writeln!(text, "{name} {}", hex::encode(bytes)).expect("a String takes all text");
+        }
+        for (name, lengths) in [
+            ("board-file-lengths", &board.file_lengths),
+            ("board-word-lengths", &board.word_lengths),
+            ("board-read-lengths", &board.read_lengths),
+        ] {
+            text += name;
+            for length in lengths {
+                write!(text, " {length}").expect("a String takes all text");
+            }
+            text += "\n";
         }
         for (name, number) in [
             ("type", u64::from(isolation.attention_type)),
@@ -87,6 +105,8 @@ impl Case {
             ("instance", u64::from(self.instance)),
             ("places", self.places as u64),
             ("text", self.text as u64),
+            ("board-type", u64::from(board.attention_type)),
+            ("board-list", board.room as u64),
         ] {
             writeln!(text, "{name} {number}").expect("a String takes all text");
         }
@@ -94,7 +114,8 @@ impl Case {
     }
 
     /// The case of such lines, or the first line that is none. A part without
-    /// a line is empty or 0; `places` is then 8 and `text` 152000.
+    /// a line is empty or 0, and a board without one has no slot; `places` is then
+    /// 8 and `text` 152000.
     pub fn from_text(text: &str) -> Result<Self, String> {
         let mut case = Case {
             isolation: generate::Case {
@@ -109,6 +130,7 @@ impl Case {
             places: 8,
             readings_file: Vec::new(),
             text: TEXT_BYTES,
+            board: Board::new(0, 0),
         };
         for line in text.lines().filter(|line| !line.trim().is_empty()) {
             case.set(line.trim()).ok_or(line)?;
@@ -119,16 +141,19 @@ impl Case {
     fn set(&mut self, line: &str) -> Option<()> {
         let (name, value) = line.split_once(' ').unwrap_or((line, ""));
         let isolation = &mut self.isolation;
+        let board = &mut self.board;
         match name {
             "file" => isolation.file = hex::decode(value)?,
             "read" => isolation.read = hex::decode(value)?,
-            "words" => {
-                let bytes = hex::decode(value)?;
-                let words = bytes.chunks(8).map(|word| word.try_into().ok());
-                isolation.words = words
-                    .map(|word| word.map(u64::from_be_bytes))
-                    .collect::<Option<_>>()?;
-            }
+            "words" => isolation.words = words(value)?,
+            "board-files" => board.files = hex::decode(value)?,
+            "board-file-lengths" => board.file_lengths = lengths(value)?,
+            "board-words" => board.words = words(value)?,
+            "board-word-lengths" => board.word_lengths = lengths(value)?,
+            "board-read" => board.read = hex::decode(value)?,
+            "board-read-lengths" => board.read_lengths = lengths(value)?,
+            "board-type" => board.attention_type = value.parse().ok()?,
+            "board-list" => board.room = value.parse().ok()?,
             "type" => isolation.attention_type = value.parse().ok()?,
             "list" => isolation.room = value.parse().ok()?,
             "id" => self.id = value.parse().ok()?,
@@ -140,6 +165,29 @@ impl Case {
         }
         Some(())
     }
+}
+
+/// Words of 8 bytes each, in hexadecimal.
+fn words(text: &str) -> Option<Vec<u64>> {
+    let bytes = hex::decode(text)?;
+    let words = bytes.chunks(8).map(|word| word.try_into().ok());
+    words.map(|word| word.map(u64::from_be_bytes)).collect()
+}
+
+/// Decimal numbers.
+fn lengths(text: &str) -> Option<Vec<u64>> {
+    let numbers = text.split_whitespace();
+    numbers.map(|number| number.parse().ok()).collect()
+}
+
+/// A board around the case, or seldom a hand-made one.
+fn board(random: &mut Random, case: &generate::Case) -> Board {
+    static BOARDS: OnceLock<Vec<cases::BoardCase>> = OnceLock::new();
+    if random.one_in(16) {
+        let boards = BOARDS.get_or_init(cases::boards);
+        return random.pick(boards).board.clone();
+    }
+    generate::board_around(random, case)
 }
 
 /// A file of its own kind, with readings that fit it where it is accepted.
@@ -315,6 +363,13 @@ mod tests {
             "places",
             "readings 0",
             "text -1",
+            "board-files 0",
+            "board-file-lengths 1 x",
+            "board-words 00",
+            "board-word-lengths -1",
+            "board-read-lengths 18446744073709551616",
+            "board-type 256",
+            "board-list",
         ] {
             assert_eq!(Case::from_text(line), Err(line.to_string()));
         }

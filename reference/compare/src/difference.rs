@@ -3,19 +3,24 @@
 
 use std::fmt;
 
-use reference::vectors::{address_of_any, expected_of_check, expected_of_pair};
-use reference::{bits_above_silent, check, isolate, refusal, report};
+use reference::vectors::{
+    address_of_any, expected_of_board, expected_of_check, expected_of_pair, BOARD_SLOT,
+};
+use reference::{bits_above_silent, board, check, isolate, isolate_board, refusal, report};
 
 use crate::case::Case;
-use crate::proved::{self, ADDRESS_PLACES, CHECK_PLACES, ISOLATE_PLACES};
+use crate::proved::{self, ADDRESS_PLACES, BOARD_PLACES, CHECK_PLACES, ISOLATE_PLACES};
 
-/// The numbers of the four outcomes, 0 for success.
+/// The numbers of the five outcomes, 0 for success.
 #[derive(Clone, Copy, Debug, PartialEq, Eq)]
 pub struct Outcomes {
     pub check: u8,
     pub address: u8,
     pub isolate: u8,
     pub report: u8,
+    pub board: u8,
+    /// The slot of a board that is refused for one.
+    pub slot: Option<u8>,
     /// The text was too short for the report.
     pub cut: bool,
     /// A bit to list has a child that shows nothing; the list may have no room
@@ -127,6 +132,26 @@ impl Out {
     }
 }
 
+/// A copy of words in the middle of other numbers.
+struct LentWords {
+    numbers: Vec<u64>,
+}
+
+impl LentWords {
+    const AROUND: usize = 4;
+
+    fn new(content: &[u64]) -> Self {
+        let around = [1, 60, u64::MAX, 0];
+        LentWords {
+            numbers: [&around, content, &around].concat(),
+        }
+    }
+
+    fn part(&self) -> &[u64] {
+        &self.numbers[Self::AROUND..self.numbers.len() - Self::AROUND]
+    }
+}
+
 fn same_numbers(call: &'static str, proved: &[u64], reference: &[u64]) -> Result<(), Difference> {
     if proved == reference {
         return Ok(());
@@ -190,6 +215,7 @@ pub fn compare(case: &Case) -> Result<Outcomes, Difference> {
     let address = compare_address(case, &file)?;
     let isolate = compare_isolate(case, &file)?;
     let (report, cut) = compare_report(case, &file)?;
+    let (board, slot) = compare_board(case)?;
     let isolation = &case.isolation;
     let bits_above_silent = bits_above_silent(
         &isolation.file,
@@ -202,6 +228,8 @@ pub fn compare(case: &Case) -> Result<Outcomes, Difference> {
         address,
         isolate,
         report,
+        board,
+        slot,
         cut,
         above_silent: bits_above_silent > 0,
     })
@@ -245,6 +273,7 @@ fn compare_isolate(case: &Case, file: &Lent) -> Result<u8, Difference> {
         expected_list.part_mut(),
     ));
 
+    let words = LentWords::new(&isolation.words);
     let read = Lent::new(&isolation.read);
     for places in [case.places, 0] {
         let mut list = Lent::patterned(isolation.room);
@@ -252,7 +281,7 @@ fn compare_isolate(case: &Case, file: &Lent) -> Result<u8, Difference> {
         let returned = proved::isolate(
             file.part(),
             isolation.attention_type,
-            &isolation.words,
+            words.part(),
             read.part(),
             list.part_mut(),
             out.part(),
@@ -265,6 +294,41 @@ fn compare_isolate(case: &Case, file: &Lent) -> Result<u8, Difference> {
         same_bytes("the list after isolate", &list, &expected_list)?;
     }
     Ok(answer[0] as u8)
+}
+
+/// The number of the outcome, and the slot that a board is refused for.
+fn compare_board(case: &Case) -> Result<(u8, Option<u8>), Difference> {
+    let board = &case.board;
+    let mut expected_list = Lent::patterned(board.room);
+    let answer = expected_of_board(board.isolate(isolate_board, expected_list.part_mut()));
+
+    let files = Lent::new(&board.files);
+    let words = LentWords::new(&board.words);
+    let read = Lent::new(&board.read);
+    let file_lengths = LentWords::new(&board.file_lengths);
+    let word_lengths = LentWords::new(&board.word_lengths);
+    let read_lengths = LentWords::new(&board.read_lengths);
+    for places in [case.places, 0] {
+        let mut list = Lent::patterned(board.room);
+        let mut out = Out::new(places);
+        let returned = proved::board(
+            board::Lent::new(files.part(), file_lengths.part()),
+            board.attention_type,
+            board::Lent::new(words.part(), word_lengths.part()),
+            board::Lent::new(read.part(), read_lengths.part()),
+            list.part_mut(),
+            out.part(),
+        );
+        let expected = Out::expected(places, &answer[..BOARD_PLACES]);
+        same_numbers("board", &out.places, &expected)?;
+        let first = out.first(BOARD_PLACES);
+        same_returned("what board returns", returned, answer[0], first)?;
+        // The list gets its records whatever places `out` has.
+        same_bytes("the list after board", &list, &expected_list)?;
+    }
+    let number = answer[0] as u8;
+    let is_for_a_slot = (1..refusal::NO_ROOM).contains(&number);
+    Ok((number, is_for_a_slot.then_some(answer[BOARD_SLOT] as u8)))
 }
 
 /// The number of the outcome, and whether the text was too short for it.
@@ -306,12 +370,18 @@ mod tests {
         let mut reported = [0; HIGHEST_NUMBER as usize + 1];
         let mut cut = 0;
         let mut above_silent = 0;
+        let mut boards = [0; refusal::BOARD_DOES_NOT_ADD_UP as usize + 1];
+        let mut slots = [0; board::MOST_SLOTS];
         let mut too_large_for_the_report = [0; HIGHEST_NUMBER as usize + 1];
         for number in 0..2_000 {
             let case = Case::seeded(1, number);
             match compare(&case) {
                 Ok(outcomes) => {
                     reported[usize::from(outcomes.report)] += 1;
+                    boards[usize::from(outcomes.board)] += 1;
+                    if let Some(slot) = outcomes.slot {
+                        slots[usize::from(slot)] += 1;
+                    }
                     cut += usize::from(outcomes.cut);
                     above_silent += usize::from(outcomes.above_silent);
                     let is_too_large = outcomes.is_too_large_for_the_report_alone();
@@ -322,6 +392,9 @@ mod tests {
             }
         }
         assert!(reported.iter().all(|&cases| cases > 0), "{reported:?}");
+        assert!(boards.iter().all(|&cases| cases > 0), "{boards:?}");
+        assert!(boards[0] >= 300, "{boards:?}");
+        assert!(slots.iter().all(|&cases| cases > 0), "{slots:?}");
         assert!(cut >= 100, "{cut}");
         assert!(above_silent >= 100, "{above_silent}");
         // The file is accepted, or it has another fault.

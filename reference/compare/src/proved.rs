@@ -1,9 +1,11 @@
-//! The proved library's four functions.
+//! The proved library's five functions.
 //!
 //! Each takes any input: none has a precondition. `out` gets the answer as
 //! 64-bit numbers, the first two being the number of the refusal (0: none) and
-//! its place. Check, address and isolate also return that number, whatever
+//! its place. Check, address, isolate and board also return that number, whatever
 //! places `out` has.
+
+use reference::board::Lent;
 
 /// Number, place, model, registers, register instances, nodes, node instances
 /// and roots.
@@ -12,6 +14,8 @@ pub const CHECK_PLACES: usize = 8;
 pub const ADDRESS_PLACES: usize = 4;
 /// Number, place, records, steps.
 pub const ISOLATE_PLACES: usize = 4;
+/// Number, place, records, steps, slot.
+pub const BOARD_PLACES: usize = 5;
 /// A text of so many bytes has room for every answer of the report.
 pub const TEXT_BYTES: usize = 152_000;
 
@@ -35,6 +39,26 @@ extern "C" {
         words_len: usize,
         read: *const u8,
         read_len: usize,
+        list: *mut u8,
+        list_len: usize,
+        out: *mut u64,
+        out_len: usize,
+    ) -> u64;
+
+    fn lutemarble_board(
+        files: *const u8,
+        files_len: usize,
+        file_lengths: *const u64,
+        file_slots: usize,
+        attention: u8,
+        words: *const u64,
+        words_len: usize,
+        word_lengths: *const u64,
+        word_slots: usize,
+        read: *const u8,
+        read_len: usize,
+        read_lengths: *const u64,
+        read_slots: usize,
         list: *mut u8,
         list_len: usize,
         out: *mut u64,
@@ -93,6 +117,39 @@ pub fn isolate(
             words.len(),
             read.as_ptr(),
             read.len(),
+            list.as_mut_ptr(),
+            list.len(),
+            out.as_mut_ptr(),
+            out.len(),
+        )
+    }
+}
+
+/// An `out` of fewer than [`BOARD_PLACES`] places keeps what it has.
+pub fn board(
+    files: Lent<'_, u8>,
+    attention_type: u8,
+    words: Lent<'_, u64>,
+    read: Lent<'_, u8>,
+    list: &mut [u8],
+    out: &mut [u64],
+) -> u64 {
+    // SAFETY: as above; `list` and `out` are lent alone and do not overlap.
+    unsafe {
+        lutemarble_board(
+            files.all.as_ptr(),
+            files.all.len(),
+            files.lengths.as_ptr(),
+            files.lengths.len(),
+            attention_type,
+            words.all.as_ptr(),
+            words.all.len(),
+            words.lengths.as_ptr(),
+            words.lengths.len(),
+            read.all.as_ptr(),
+            read.all.len(),
+            read.lengths.as_ptr(),
+            read.lengths.len(),
             list.as_mut_ptr(),
             list.len(),
             out.as_mut_ptr(),

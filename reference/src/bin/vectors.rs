@@ -37,6 +37,7 @@ fn main() -> ExitCode {
         (Kind::Check, "check"),
         (Kind::Address, "address"),
         (Kind::Isolation, "isolation"),
+        (Kind::Board, "board"),
     ] {
         print!("{name}");
         for (&(_, number), count) in outcomes.range((kind, 0)..=(kind, u32::MAX)) {

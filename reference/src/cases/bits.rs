@@ -8,11 +8,10 @@
 
 use super::isolation::Isolation;
 use crate::hex;
-use crate::isolation::RECORD_BYTES;
+use crate::isolation::{Found, Record, RECORD_BYTES};
 use crate::large::{ATTENTION_TYPE, B1};
 use crate::readings::READ;
 use crate::refusal::{self, Refusal};
-use crate::report::Found;
 
 /// Registers 1 and 2 with instance 0 each, and two nodes.
 const START: &str = "43 48 49 50 44 41 54 41 00 00 00 01 01 52 45 47 53 00 00 02 \
@@ -96,14 +95,14 @@ fn call(name: &str, with_child: &[u8], active: &[u8], shown: &[u8], room: Room) 
     let mut listed = Vec::new();
     for &bit in active {
         if !with_child.contains(&bit) || shown.is_empty() {
-            listed.push([ATTENTION_TYPE, bit, 0, 1, 0, 0, 0, 0]);
+            listed.push(record(1, 0, bit));
         }
     }
     let mut steps = 1;
     for number in with_child.iter().filter(|bit| active.contains(bit)) {
         steps += 1;
         for &bit in shown {
-            listed.push([ATTENTION_TYPE, bit, 0, 2, *number, 0, 0, 0]);
+            listed.push(record(2, *number, bit));
         }
     }
 
@@ -136,6 +135,11 @@ fn call(name: &str, with_child: &[u8], active: &[u8], shown: &[u8], room: Room) 
         room,
         answer,
     }
+}
+
+/// The record of a node's instance and bit: model/level 1 and slot 0.
+fn record(node: u8, instance: u8, bit: u8) -> Record {
+    [0, 0, 0, 1, 3, bit, 0, node, instance, 0, 0, 0, 0, 0, 0, 0]
 }
 
 /// The bits' numbers in one word.

@@ -4,11 +4,10 @@
 //! The attention type is 3 in all of them, and the root is instance 0 of node 1.
 
 use crate::hex;
-use crate::isolation::RECORD_BYTES;
-use crate::large::ATTENTION_TYPE;
+use crate::isolation::{Found, Record, RECORD_BYTES};
 use crate::readings::READ;
 use crate::refusal::{self, Refusal};
-use crate::report::{Found, LIST_RECORDS};
+use crate::report::LIST_RECORDS;
 
 /// One call and its answer.
 pub struct Isolation {
@@ -86,8 +85,12 @@ pub(super) fn all() -> Vec<Isolation> {
 /// A listed bit: node, instance, bit.
 type Bit = (u8, u8, u8);
 
+/// Its record: model/level 1 and slot 0.
+fn record(&(node, instance, bit): &Bit) -> Record {
+    [0, 0, 0, 1, 3, bit, 0, node, instance, 0, 0, 0, 0, 0, 0, 0]
+}
+
 fn found(bits: &[Bit], steps: usize) -> Result<Found, Refusal> {
-    let record = |&(node, instance, bit): &Bit| [ATTENTION_TYPE, bit, 0, node, instance, 0, 0, 0];
     Ok(Found {
         records: bits.iter().map(record).collect(),
         steps,
@@ -435,8 +438,8 @@ fn rooms(calls: &mut Calls) {
         let refused = || Err(Refusal::new(refusal::NO_ROOM, bits.len()));
         for (with, room, answer) in [
             ("exact", needed, found(bits, steps)),
-            ("seven-bytes-more", needed + 7, found(bits, steps)),
-            ("one-place-more", needed + 8, found(bits, steps)),
+            ("fifteen-bytes-more", needed + 15, found(bits, steps)),
+            ("one-place-more", needed + 16, found(bits, steps)),
             ("byte-less", needed - 1, refused()),
             ("place-less", needed - RECORD_BYTES, refused()),
             ("none", 0, refused()),

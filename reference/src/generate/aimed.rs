@@ -62,7 +62,7 @@ pub fn aimed_case(random: &mut Random, number: u8, sizes: Sizes) -> Case {
     match number {
         0 => {
             case.read.fill(READ);
-            case.room = exact_room(&case) + random.below(20);
+            case.room = exact_room(&case) + random.below(40);
         }
         refusal::UNKNOWN_ATTENTION => {
             case.attention_type = match random.below(4) {
@@ -96,7 +96,7 @@ pub fn aimed_case(random: &mut Random, number: u8, sizes: Sizes) -> Case {
             case.room = match random.below(3) {
                 0 => needed.saturating_sub(1),
                 1 => random.below(needed + 1),
-                _ => random.below(9),
+                _ => random.below(17),
             };
         }
         _ => {}
@@ -543,7 +543,7 @@ fn case_at(random: &mut Random, limits: Limits) -> Case {
         read,
         room: match random.below(4) {
             0 => room(random),
-            1 => random.below(most + 9),
+            1 => random.below(most + 17),
             _ => most,
         },
     }
@@ -600,7 +600,7 @@ pub fn full_list_case(random: &mut Random) -> Case {
         attention_type: large::ATTENTION_TYPE,
         words,
         read: vec![READ; nodes],
-        room: records * RECORD_BYTES - random.below(2) + random.below(9),
+        room: records * RECORD_BYTES - random.below(2) + random.below(17),
     }
 }
 

@@ -56,9 +56,9 @@ mod tests {
     use super::*;
     use crate::expression::bit_is_set;
     use crate::generate::{aimed_case, case, Sizes};
-    use crate::isolation::{isolate, RECORD_BYTES};
+    use crate::isolation::{isolate, listed_bit, RECORD_BYTES};
     use crate::layout::Limits;
-    use crate::tree::{Child, NodeName};
+    use crate::tree::Child;
 
     /// Cases with a listed bit whose child shows nothing, by what the children
     /// and bits are.
@@ -90,9 +90,9 @@ mod tests {
             let Ok((records, steps)) = answer else { return };
             let accepted = Accepted::read(&case.file).unwrap();
             let mut listed: BTreeMap<usize, BTreeSet<u8>> = BTreeMap::new();
-            for &[_, bit, high, low, instance, ..] in &list[..records] {
-                let id = u16::from_be_bytes([high, low]);
-                let position = accepted.index.node_instance(NodeName { id, instance });
+            for record in &list[..records] {
+                let (node, bit) = listed_bit(record);
+                let position = accepted.index.node_instance(node);
                 listed.entry(position.unwrap()).or_default().insert(bit);
             }
 

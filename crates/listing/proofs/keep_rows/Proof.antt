@@ -1,65 +1,56 @@
--- The invariant: the links of the first i node instances have been counted, and the table keeps their words.
+-- The invariant: the first k rows have the listed bits of the first i node instances.
 use mathlib.Core.Path.{_≡_, refl, _∙_}
-use Prim.Native.Nat.{_≤_, _-_, _+_}
+use Prim.Native.Nat.{_≤_, _-_}
 use borrow.Author.Needs.{needs}
 use native.Mathlib.Omega.{arith}
-use lib.Count.{ones-le}
 use lib.ListN.{length}
 use Rattle.walk.specs.TableGraph.{tableGraph}
-use Rattle.walk.proofs.Tables.{size-few}
-use Rattle.listing.specs.Rows.{rowsTo, RowsKept}
-use Rattle.listing.proofs.RowsLaws.{rows-none, rows-count, rows-end, rows-few}
-use Rattle.listing.proofs.WordLaws.{row-ones}
-use Rattle.listing.proofs.PassLaws.{kept-started, kept-next, kept-end}
+use Rattle.listing.specs.Rows.{firstRows, RowsKept}
+use Rattle.listing.proofs.KeptLaws.{kept-none, kept-next, kept-end, head-keyed}
 use Rattle.listing.proofs.keep_rows.Statement.{statement}
 use Rattle.listing.proofs.keep_rows.Tie as tie
 
 abbrev Inv-loop : tie.InvT-loop
-Inv-loop listed₀ marks active child n count₀ i₀ listed count i =
-    (i ≤ n) × (count ≡ length (rowsTo (tableGraph active child) marks i)) × (RowsKept (tableGraph active child) marks i listed) × (length listed ≡ length listed₀)
+Inv-loop heads₀ words₀ model slot keys marks active child n k₀ i₀ heads words k i =
+    (i ≤ n) × (k ≤ i) × RowsKept model slot keys (tableGraph active child) marks i (firstRows k heads words)
+    × (length heads ≡ length heads₀) × (length words ≡ length words₀)
 
 abbrev μ-loop : tie.MeasureT-loop
-μ-loop listed₀ marks active child n count₀ i₀ listed count i = n - i
+μ-loop heads₀ words₀ model slot keys marks active child n k₀ i₀ heads words k i = n - i
 
 loop-holds : tie.Need-loop-holds Inv-loop μ-loop
-loop-holds c = (omega arith, rows-none _ _, kept-started _ _, refl)
+loop-holds c = (omega arith, omega arith, kept-none _ _ _ _ _ _ _, refl, refl)
 
-cast-count : tie.Need-cast-count Inv-loop μ-loop
-cast-count c =
-    let w = c .before .before .before .before in
-    omega (arith, ones-le 64 (w .row-word .result) (omega arith))
-
-add-count : tie.Need-add-count Inv-loop μ-loop
-add-count c =
-    let w = c .before .before .before .before in
-    let l = w .before .before in
-    let s = l .before .before .before .before .before in
-    let a = s .args in
-    let g = tableGraph (a .active .now) (a .child .now) in
-    omega (
-      arith,
-      rows-count g (a .marks .now) (l .loop .i) (l .loop .inv .1) (row-ones g (a .marks .now) (l .loop .i) (w .row-word .ensures)),
-      rows-few g (a .marks .now) (l .loop .i + 1),
-      size-few (a .active .now),
-      s .pre,
+keep-row-requires : tie.Need-keep-row-requires Inv-loop μ-loop
+keep-row-requires c κs =
+    let t = c .before .before .before .before .before in
+    let l = t .before in
+    let s = l .before .before .before .before .before .before .before in (
+      omega (arith, t .loop-test .taken, l .loop .inv .1, l .loop .inv .3, s .pre .1),
+      omega (arith, t .loop-test .taken, l .loop .inv .1, l .loop .inv .4, s .pre .2),
     )
 
 loop-again : tie.Need-loop-again Inv-loop μ-loop
 loop-again c =
-    let k = c .before .before in
-    let w = k .before .before in
+    let r = c .before .before .before .before in
+    let h = r .before .before .before in
+    let y = h .before in
+    let w = y .before in
     let l = w .before .before in
-    let e : length (k .keep-word .last .0) ≡ length (l .loop .listed) = search needs in (
+    let s = l .before .before .before .before .before .before .before in
+    let e : length (r .keep-row .last .0) ≡ length (l .loop .heads) = search needs in
+    let d : length (r .keep-row .last .1 .0) ≡ length (l .loop .words) = search needs in (
       search needs,
-      rows-count _ _ _ (l .loop .inv .1) (row-ones _ _ _ (w .row-word .ensures)),
-      kept-next _ _ _ (l .loop .inv .2) (w .row-word .ensures) (k .keep-word .ensures),
+      omega (arith, r .keep-row .ensures .1, l .loop .inv .1),
+      kept-next _ _ _ _ _ _ (l .loop .inv .2) (w .row-word .ensures) (head-keyed _ _ (s .args .keys .now) (l .loop .i) (y .key-at .ensures) (h .head-of .ensures)) (r .keep-row .ensures .0),
       e ∙ l .loop .inv .3,
+      d ∙ l .loop .inv .4,
     )
 
 returns : tie.Need-returns Inv-loop μ-loop
 returns c =
     let l = c .before in
-    (rows-end _ _ _ _ (l .loop .inv .1) (omega arith), kept-end _ _ _ _ (l .loop .inv .2) (omega arith))
+    (kept-end _ _ _ _ _ _ _ (l .loop .inv .2) (omega (arith, l .loop .inv .0)), omega (arith, l .loop .inv .0, l .loop .inv .1))
 
 pub keep-rows-spec : {M : Type 1} → statement M
 keep-rows-spec =
@@ -70,10 +61,11 @@ keep-rows-spec =
     loop-holds
     (λ c κs. search needs)
     (λ c κs. search needs)
-    cast-count
-    add-count
+    (λ c κs. search needs)
+    keep-row-requires
     (λ c. search needs)
     (λ c. search needs)
     loop-again
+    (λ c. search needs)
     (λ c. search needs)
     returns)

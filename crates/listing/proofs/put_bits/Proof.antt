@@ -8,20 +8,20 @@ use Rattle.listing.proofs.put_bits.Statement.{statement}
 use Rattle.listing.proofs.put_bits.Tie as tie
 
 abbrev Inv-loop : tie.InvT-loop
-Inv-loop list₀ at attention id number word place₀ unwritten₀ list place unwritten = Recorded attention id number word list₀ list at place unwritten
+Inv-loop list₀ at attention head word place₀ unwritten₀ list place unwritten = Recorded attention head word list₀ list at place unwritten
 
 abbrev μ-loop : tie.MeasureT-loop
-μ-loop list₀ at attention id number word place₀ unwritten₀ list place unwritten = ones unwritten
+μ-loop list₀ at attention head word place₀ unwritten₀ list place unwritten = ones unwritten
 
 loop-holds : tie.Need-loop-holds Inv-loop μ-loop
-loop-holds c = recorded-none _ _ _ _ _ (omega arith)
+loop-holds c = recorded-none _ _ _ _ (omega arith)
 
 put-record-requires : tie.Need-put-record-requires Inv-loop μ-loop
 put-record-requires c κs =
     let b = c .before in
     let l = b .before .before in
     let s = l .before .before in
-    recorded-room _ _ _ _ _ (l .loop .inv) (s .pre) (λ z. absurd (omega arith)) (b .next-bit .ensures)
+    recorded-room _ _ _ _ (l .loop .inv) (s .pre) (λ z. absurd (omega arith)) (b .next-bit .ensures)
 
 add-place : tie.Need-add-place Inv-loop μ-loop
 add-place c =
@@ -30,7 +30,7 @@ add-place c =
     let a = l .before .before .args in
     omega (
       arith,
-      recorded-room (a .attention) (a .id) (a .number) (a .word) (a .«at») (l .loop .inv) (l .before .before .pre) (λ z. absurd (omega arith)) (b .next-bit .ensures),
+      recorded-room (a .attention) (a .head) (a .word) (a .«at») (l .loop .inv) (l .before .before .pre) (λ z. absurd (omega arith)) (b .next-bit .ensures),
     )
 
 loop-less : tie.Need-loop-less Inv-loop μ-loop
@@ -44,10 +44,10 @@ loop-again c =
     let b = p .before .before in
     let l = b .before .before in
     let s = l .before .before in
-    recorded-next _ _ _ _ _ (l .loop .inv) (s .pre) (λ z. absurd (omega arith)) (b .next-bit .ensures) (p .put-record .ensures) (search needs) (c .without-next .ensures)
+    recorded-next _ _ _ _ (l .loop .inv) (s .pre) (λ z. absurd (omega arith)) (b .next-bit .ensures) (p .put-record .ensures) (search needs) (c .without-next .ensures)
 
 returns : tie.Need-returns Inv-loop μ-loop
-returns c = recorded-all _ _ _ _ _ (c .before .loop .inv) (omega arith)
+returns c = recorded-all _ _ _ _ (c .before .loop .inv) (omega arith)
 
 pub put-bits-spec : {M : Type 1} → statement M
 put-bits-spec =

@@ -9,7 +9,7 @@ use Rattle.report.proofs.report_full.Statement.{statement}
 use Rattle.report.proofs.report_full.Tie as tie
 
 put-answer-requires : tie.Need-put-answer-requires
-put-answer-requires c κs = let f = c .before .before .before .isolate-file in answer-room _ _ _ _ 32768 (f .result) (f .last .1 .1 .1 .0) (f .ensures) (λ i. c .before .before .before .before .before .before .before .shared-slice-known .given i .fits) (omega arith) (c .before .before .list2 .given)
+put-answer-requires c κs = let f = c .before .before .before .isolate-file in answer-room _ _ _ 65536 (f .result) (f .last .1 .1 .1 .0) (f .ensures) (omega arith) (c .before .before .list2 .given)
 
 returns : tie.Need-returns
 unfolding report stationList

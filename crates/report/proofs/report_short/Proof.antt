@@ -8,7 +8,7 @@ use Rattle.report.proofs.report_short.Statement.{statement}
 use Rattle.report.proofs.report_short.Tie as tie
 
 put-answer-requires : tie.Need-put-answer-requires
-put-answer-requires c κs = let f = c .before .before .before .before .before .isolate-file in answer-room _ _ _ _ 1024 (f .result) (f .last .1 .1 .1 .0) (f .ensures) (λ i. c .before .before .before .before .before .before .before .before .before .shared-slice-known .given i .fits) (omega arith) (c .before .before .before .before .list2 .given)
+put-answer-requires c κs = let f = c .before .before .before .before .before .isolate-file in answer-room _ _ _ 2048 (f .result) (f .last .1 .1 .1 .0) (f .ensures) (omega arith) (c .before .before .before .before .list2 .given)
 
 returns : tie.Need-returns
 returns c = (λ h. absurd (omega arith), (λ e. refl, omega arith))
@@ -18,7 +18,7 @@ unfolding report stationList
 returns-2 c =
     let f = c .before .before .before .before .before .before .before .before .isolate-file in
     let p = c .before .before .put-answer .ensures in
-    (λ h. put-as (p .0) (answer-text _ _ _ _ 1024 (f .result) (f .last .1 .1 .1 .0) (f .ensures) 32768 (omega arith) (c .before .before .before .before .before .before .lacks-room .ensures) (c .before .before .before .before .before .if1 .left)), (λ e. put-none (p .0) e, p .1))
+    (λ h. put-as (p .0) (answer-text _ _ _ 2048 (f .result) (f .last .1 .1 .1 .0) (f .ensures) (λ i. c .before .before .before .before .before .before .before .before .before .before .before .before .shared-slice-known .given i .fits) 65536 (omega arith) (c .before .before .before .before .before .before .lacks-room .ensures) (c .before .before .before .before .before .if1 .left)), (λ e. put-none (p .0) e, p .1))
 
 pub report-short-spec : {M : Type 1} → statement M
 report-short-spec =

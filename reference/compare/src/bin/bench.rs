@@ -9,9 +9,10 @@ use std::hint::black_box;
 use std::time::{Duration, Instant};
 
 use compare::proved;
+use reference::board::{self, Board, Lent, MOST_SLOTS};
 use reference::isolation::RECORD_BYTES;
 use reference::large::{self, Crowding, Order};
-use reference::vectors::{expected_of_check, expected_of_pair, EXPECTED};
+use reference::vectors::{expected_of_board, expected_of_check, expected_of_pair, EXPECTED};
 use reference::{fast, readings, Accepted, Limits, Refusal};
 
 /// One measurement repeats a call for at least so long.
@@ -141,6 +142,113 @@ fn isolate<'a>(name: &str, file: &'a [u8], words: &'a [u64], read: &'a [u8]) -> 
         reference: Box::new(by_rust(reference::isolate)),
         fast: Box::new(by_rust(fast::isolate)),
     }
+}
+
+/// The answer is what the calls return; the lists are compared here.
+fn board_job(name: &str, board: Board) -> Job<'static> {
+    let mut out = [0; proved::BOARD_PLACES];
+    let board: &'static Board = Box::leak(Box::new(board));
+    let by_proved = move |list: &mut [u8], out: &mut [u64]| {
+        let board = black_box(board);
+        proved::board(
+            Lent::new(&board.files, &board.file_lengths),
+            board.attention_type,
+            Lent::new(&board.words, &board.word_lengths),
+            Lent::new(&board.read, &board.read_lengths),
+            list,
+            out,
+        )
+    };
+    let mut list = vec![0xEE; board.room];
+    let mut fast_list = list.clone();
+    let mut clear_list = list.clone();
+    by_proved(&mut list, &mut out);
+    let _ = board.isolate(fast::isolate_board, &mut fast_list);
+    let _ = board.isolate(reference::isolate_board, &mut clear_list);
+    assert!(list == clear_list && fast_list == clear_list, "{name}");
+    let by_rust = move |isolate_board: board::IsolateBoard| {
+        let mut list = vec![0; board.room];
+        move || {
+            let answer = black_box(board).isolate(isolate_board, &mut list);
+            black_box(&mut list);
+            expected_of_board(answer)
+        }
+    };
+    Job {
+        name: format!("board of {name}"),
+        proved: Box::new(move || {
+            by_proved(&mut list, &mut out);
+            black_box(&mut list);
+            answer_of(&out)
+        }),
+        reference: Box::new(by_rust(reference::isolate_board)),
+        fast: Box::new(by_rust(fast::isolate_board)),
+    }
+}
+
+/// So many slots with one file, whose registers all have these bits. The list has
+/// room for all bits of the node instances.
+fn slots_of(slots: usize, file: &[u8], bits: u64) -> Board {
+    let summary = reference::check(file).expect("the file is accepted");
+    let words = vec![bits; summary.register_instances];
+    let read = vec![1; summary.register_instances];
+    let room = slots * summary.node_instances * 64 * RECORD_BYTES;
+    let mut board = Board::new(large::ATTENTION_TYPE, room);
+    for _ in 0..slots {
+        board.add(file, &words, &read);
+    }
+    board
+}
+
+/// The same without the last byte of the last file: refused in the last slot.
+fn cut_in_the_last_slot(mut board: Board) -> Board {
+    board.files.truncate(board.files.len() - 1);
+    if let Some(last) = board.file_lengths.last_mut() {
+        *last -= 1;
+    }
+    board
+}
+
+/// Boards of one slot and of sixteen.
+fn boards() -> Vec<Job<'static>> {
+    let top_bit = 1 << 63;
+    let row = large::children(256, 1, false);
+    let wide = large::children(256, large::MOST_CHILDREN, false);
+    let largest_row = large::children(LIBRARY.node_instances, 1, false);
+    let largest = large::children(LIBRARY.node_instances, large::MOST_CHILDREN, false);
+    let sixteen = |file: &[u8], bits| slots_of(MOST_SLOTS, file, bits);
+    vec![
+        board_job("one slot, B1", slots_of(1, &large::B1, top_bit)),
+        board_job("sixteen B1", sixteen(&large::B1, top_bit)),
+        board_job(
+            "one slot of 256 instances, a row, one record",
+            slots_of(1, &row, top_bit),
+        ),
+        board_job(
+            "sixteen of 256 instances, a row, one record each",
+            sixteen(&row, top_bit),
+        ),
+        board_job(
+            "sixteen of 256 instances, a row, 16,129 records each",
+            sixteen(&row, u64::MAX),
+        ),
+        board_job(
+            "sixteen of 256 instances, 60 children each",
+            sixteen(&wide, u64::MAX),
+        ),
+        board_job(
+            "sixteen of 256 instances, refused by 2 in the last slot",
+            cut_in_the_last_slot(sixteen(&wide, u64::MAX)),
+        ),
+        board_job(
+            "sixteen of 1,024 instances, a row, one record each",
+            sixteen(&largest_row, top_bit),
+        ),
+        board_job(
+            "sixteen of 1,024 instances, 60 children each",
+            sixteen(&largest, u64::MAX),
+        ),
+    ]
 }
 
 /// The answer is the length of the text; the texts are compared here.
@@ -734,6 +842,7 @@ fn main() {
             Base::Spread,
             collisions(LIBRARY),
         ),
+        group("Boards", Base::Nothing, boards()),
         group("Growth by size: check", Base::Half, growth_of_check),
         group("Growth by size: isolation", Base::Half, growth_of_isolation),
         group("Growth by size: IDs falling", Base::Half, growth_falling),

@@ -11,8 +11,8 @@ use std::process::ExitCode;
 
 use compare::case::Case;
 use compare::difference::compare;
-use reference::generate::HIGHEST_NUMBER;
-use reference::refusal;
+use reference::board::MOST_SLOTS;
+use reference::refusal::{self, BOARD_DOES_NOT_ADD_UP};
 
 const USAGE: &str = "usage: fuzz [--trace] [CASES [SEED]]
        fuzz --show SEED NUMBER
@@ -75,13 +75,15 @@ fn run(numbers: &[&str], trace: bool) -> ExitCode {
         _ => return usage(),
     };
 
-    let mut checked = [0u64; HIGHEST_NUMBER as usize + 1];
+    let mut checked = [0u64; BOARD_DOES_NOT_ADD_UP as usize + 1];
     let mut queried = checked;
     let mut isolated = checked;
     let mut reported = checked;
+    let mut boards = checked;
+    let mut refused_slots = [0u64; MOST_SLOTS];
     let mut cut = 0u64;
-    let mut above_silent = [0u64; HIGHEST_NUMBER as usize + 1];
-    let mut too_large_for_the_report = above_silent;
+    let mut above_silent = checked;
+    let mut too_large_for_the_report = checked;
     for number in 0..cases {
         if trace {
             eprintln!("case {number}");
@@ -93,6 +95,10 @@ fn run(numbers: &[&str], trace: bool) -> ExitCode {
                 queried[usize::from(outcomes.address)] += 1;
                 isolated[usize::from(outcomes.isolate)] += 1;
                 reported[usize::from(outcomes.report)] += 1;
+                boards[usize::from(outcomes.board)] += 1;
+                if let Some(slot) = outcomes.slot {
+                    refused_slots[usize::from(slot)] += 1;
+                }
                 cut += u64::from(outcomes.cut);
                 above_silent[usize::from(outcomes.isolate)] += u64::from(outcomes.above_silent);
                 too_large_for_the_report[usize::from(outcomes.check)] +=
@@ -121,11 +127,16 @@ fn run(numbers: &[&str], trace: bool) -> ExitCode {
         }
     }
     println!();
-    println!("number check address isolate report");
+    print!("boards refused by 1 to 18, by slot");
+    for (slot, count) in refused_slots.iter().enumerate() {
+        print!(" {slot}:{count}");
+    }
+    println!();
+    println!("number check address isolate report board");
     for number in 0..checked.len() {
         println!(
-            "{number} {} {} {} {}",
-            checked[number], queried[number], isolated[number], reported[number]
+            "{number} {} {} {} {} {}",
+            checked[number], queried[number], isolated[number], reported[number], boards[number]
         );
     }
     ExitCode::SUCCESS

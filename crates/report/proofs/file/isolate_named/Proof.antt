@@ -43,14 +43,14 @@ slice-aggregate-answer-2 c =
 returns-3 : tie.Need-returns-3
 returns-3 c =
     λ of x.
-    let h = not-false _ (c .before .before .before .before .before .before .before .before .before .before .before .before .before .before .before .before .before .before .before .before .if2 .left) in
-    let b = both-in _ _ _ (c .before .before .before .before .before .before .before .before .before .before .before .before .before .before .before .before .before .before .before .before .before .both-fit .ensures) h in
-    let d = c .before .before .before .before .before .before .before .before .before .before .before .before .before .before .before .before .decode-named .ensures in
-    let k = c .before .before .before .before .before .before .before .before .before .before .before .before .before .before .before .before .before .before .before .before .before .before .before .before .before .before .before .before .before .before .before .before .before .before .before .args .keys .now in
-    let f = c .before .before .before .before .before .before .before .before .before .before .before .before .before .before .before .before .before .before .before .before .before .before .if1 .left in
-    readings-answer _ _ _ (c .before .before .before .before .before .before .before .before .before .before .before .before .before .before .before .before .before .before .before .before .before .both-fit .ensures) _ _ _ h
-    (decoded-is _ _ (λ i. c .before .before .before .before .before .before .before .before .before .before .before .before .before .before .before .before .before .before .before .before .before .before .before .before .before .before .before .before .before .before .before .before .before .before .shared-slice-known .given i .fits) (x .accepted) _ _ _ (x .keys-are) _ _ (first-in k f (b .0)) (first-in k f (b .1)) (d .0) (d .1 .1 .0) (d .1 .1 .1))
-    (c .before .before .before .before .before .before .answer .ensures of x)
+    let h = not-false _ (c .before .before .before .before .before .before .before .before .before .before .before .before .before .before .before .before .before .before .before .before .before .before .before .if2 .left) in
+    let b = both-in _ _ _ (c .before .before .before .before .before .before .before .before .before .before .before .before .before .before .before .before .before .before .before .before .before .before .before .before .both-fit .ensures) h in
+    let d = c .before .before .before .before .before .before .before .before .before .before .before .before .before .before .before .before .before .before .before .decode-named .ensures in
+    let k = c .before .before .before .before .before .before .before .before .before .before .before .before .before .before .before .before .before .before .before .before .before .before .before .before .before .before .before .before .before .before .before .before .before .before .before .before .before .before .args .keys .now in
+    let f = c .before .before .before .before .before .before .before .before .before .before .before .before .before .before .before .before .before .before .before .before .before .before .before .before .before .if1 .left in
+    readings-answer _ _ _ (c .before .before .before .before .before .before .before .before .before .before .before .before .before .before .before .before .before .before .before .before .before .before .before .before .both-fit .ensures) _ _ _ h
+    (decoded-is _ _ (λ i. c .before .before .before .before .before .before .before .before .before .before .before .before .before .before .before .before .before .before .before .before .before .before .before .before .before .before .before .before .before .before .before .before .before .before .before .before .before .shared-slice-known .given i .fits) (x .accepted) _ _ (x .keys-are) _ _ _ (first-in k f (b .0)) (first-in k f (b .1)) (d .0) (d .1 .1 .0) (d .1 .1 .1))
+    (c .before .before .before .before .before .before .before .before .answer .ensures of x)
 
 pub isolate-named-spec : {M : Type 1} → statement M
 isolate-named-spec =
@@ -66,6 +66,7 @@ isolate-named-spec =
     slice-reshare-prefix-answer-2
     slice-aggregate-answer-2
     (λ c κs. search needs)
+    (λ c. search needs)
     (λ c. search needs)
     (λ c. search needs)
     (λ c. search needs)

@@ -1,0 +1,3 @@
+-- Isolation of a board of chips.
+pub mod Board
+pub mod Rows
