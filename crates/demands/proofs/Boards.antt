@@ -1,4 +1,4 @@
--- What document 02 (vi) says of a board's answer holds.
+-- What document 02 (vi) says of a board's answer holds, and demand 1 of the minutes.
 use Prim.Native.Nat.{ℕ, _+_, _*_, _/_, _≤_, _<_}
 use mathlib.Core.Bool.{true, false}
 use mathlib.Core.List.{List, [], _∷_, _++_, map, append-nil}
@@ -24,18 +24,15 @@ use Rattle.board.specs.Board.{Board, total, boardFits, slotsFrom, slotsOf, join
 use Rattle.board.proofs.JoinLaws.{IsFound, countIn, stepsIn, FirstStops, AllFound, join-cases}
 use Rattle.board.proofs.JoinLaws as joins
 use Rattle.demands.specs.Boards.{slotCount, Fits, part, recordsIn, withSlot, ofSlot, listedFor, single, slotAnswer, RefusedSlot, FirstRefused, NoneRefused, needed, stepsInAll, recordsFor, joinedLists, BoardRefused, Unfit, FirstDecides, Joins, Succeeded, Boards, SameSlot, Independent, oneChip, OneSlot}
-use Rattle.demands.proofs.SlotLaws.{Whole, records-rows, records-count, records-whole, slot-whole, slot-byte, of-none, of-slots, reslot, find-slot, found-whole, slotAt, slots-are}
+use Rattle.demands.specs.Demand1.{RefusedCall, RefusedBoardCall}
+use Rattle.demands.proofs.Demand1.{refusal, list-length}
+use Rattle.demands.proofs.SlotLaws.{Whole, records-rows, rows-length, records-count, records-whole, slot-whole, slot-byte, of-none, of-slots, reslot, find-slot, found-whole, slotAt, map-every, slots-are}
 
 -- Tests
 
 order : (i j : ℕ) → (i < j) ⊎ ((i ≡ j) ⊎ (j < i))
 order i j =
     ⊎-elim (λ e. inl (ltb-true i j e)) (λ e. inr (⊎-elim (λ q. inl q) (λ d. inr (omega (arith, d, ltb-false i j e))) (same? i j))) (either (ltb i j))
-
-map-every : {A B : Type 0} (f g : A → B) (xs : List A) → Every (λ x. f x ≡ g x) xs → map f xs ≡ map g xs
-unfolding Every
-map-every f g [] h = refl
-map-every f g (x ∷ xs) h = rw (h .0, map-every f g xs (h .1))
 
 gathered-length : {A B : Type 0} (f : A → List B) (xs : List A) → length (gathered f xs) ≡ total (map (λ x. length (f x)) xs)
 unfolding gathered total
@@ -391,6 +388,12 @@ module _ (limits : Limits) (attention : ℕ) (b : Board) where
             let rs = gathered (recordsFor limits attention b) (below (slotCount b)) in
             rw (← all-count, ← gathered-gathered (λ r. r) (recordsFor limits attention b) (below (slotCount b))) (records-rows rs rest slots-whole)
 
+        joined-length : length (joinedLists limits attention b) ≡ needed limits attention b * 16
+        unfolding joinedLists
+        joined-length =
+            ap length (sym (gathered-gathered (λ r. r) (recordsFor limits attention b) (below (slotCount b))))
+            ∙ rows-length (gathered (recordsFor limits attention b) (below (slotCount b))) slots-whole ∙ ap (λ n. n * 16) all-count
+
         listed-records : (k : ℕ) → needed limits attention b ≤ length list / 16
             → listedFor k (board limits attention b list .answer) ≡ ofSlot k (gathered (recordsFor limits attention b) (below (slotCount b)))
         unfolding listedFor
@@ -409,49 +412,77 @@ module _ (limits : Limits) (attention : ℕ) (b : Board) where
     unfolding board
     board-unfit e = rw e
 
-    -- A fitting board's number is not 20.
-    fit-number : Fits b → board limits attention b list .answer .number ≤ 19
-    fit-number f =
+    -- It fits, no slot is refused, and the list has room for all records.
+    pub record AllRoom : Type 0 where
+      pub fits : Fits b
+      pub none : NoneRefused limits attention b
+      pub room : needed limits attention b ≤ length list / 16
+
+    with-room : (s : AllRoom)
+        → board limits attention b list
+        ≡ boardOutcome 0 (doneOutcome (needed limits attention b) (stepsInAll limits attention b) (joinedLists limits attention b ++ drop (needed limits attention b * 16) list))
+    with-room s = has-room (s .fits) list (s .none) (s .room)
+
+    room-number : AllRoom → board limits attention b list .answer .number ≡ 0
+    room-number s = ap (λ o. o .answer .number) (with-room s)
+
+    refused-call : (k n p : ℕ) → 1 ≤ n → n ≤ 19 → board limits attention b list ≡ boardOutcome k (refusedOutcome n p list) → RefusedCall list (board limits attention b list .answer)
+    refused-call k n p l h e =
+        let a : board limits attention b list .answer ≡ refusedOutcome n p list = ap (λ o. o .answer) e in
+        let m : board limits attention b list .answer .number ≡ n = ap (λ o. o .number) a in
+        record { refusal = refusal n p list _ l a; most = omega (arith, m, h) }
+
+    -- A board that fits is refused by 1 to 19 or succeeds.
+    fit-cases : Fits b → RefusedCall list (board limits attention b list .answer) ⊎ AllRoom
+    fit-cases f =
         ⊎-elim
-        (λ s. omega (arith, ap (λ o. o .answer .number) (board-stops f list s), first-refused f s .refused .most))
-        (λ a. ⊎-elim (λ z. omega (arith, z)) (λ z. omega (arith, z)) (board-number f list a))
+        (λ s. let r = first-refused f s .refused in inl (refused-call (s .at) (s .number) (s .place) (r .least) (omega (arith, r .most)) (board-stops f list s)))
+        (λ a. let none = none-refused f a in
+        ⊎-elim (λ h. inr (record { fits = f; none = none; room = h }))
+        (λ h. inl (refused-call 0 19 (needed limits attention b) (omega arith) (omega arith) (is-full f list none h)))
+        (room-or-full (needed limits attention b) list))
         (join-cases limits attention (slotAt b) (slotCount b))
+
+    -- Every board is refused by 1 to 20 or succeeds.
+    cases : RefusedBoardCall list (board limits attention b list .answer) ⊎ AllRoom
+    cases =
+        ⊎-elim
+        (λ t. ⊎-elim (λ r. inl (record { refusal = r .refusal; most = omega (arith, r .most) })) (λ s. inr s) (fit-cases (fits-out b t)))
+        (λ u. let a : board limits attention b list .answer ≡ refusedOutcome 20 0 list = ap (λ o. o .answer) (board-unfit u) in
+        let m : board limits attention b list .answer .number ≡ 20 = ap (λ o. o .number) a in
+        inl (record { refusal = refusal 20 0 list _ (omega arith) a; most = omega (arith, m) }))
+        (either (boardFits b))
+
+    ends : (board limits attention b list .answer .number ≡ 0) ⊎ RefusedBoardCall list (board limits attention b list .answer)
+    ends = ⊎-elim (λ r. inr r) (λ s. inl (room-number s)) cases
+
+    sized : length (board limits attention b list .answer .list) ≡ length list
+    sized =
+        ⊎-elim (λ r. ap length (r .refusal .keeps))
+        (λ s. ap (λ o. length (o .answer .list)) (with-room s)
+        ∙ list-length (needed limits attention b) (joinedLists limits attention b) list (joined-length (s .fits) list (s .none)) (s .room))
+        cases
 
     unfit : Unfit limits attention b list
     unfit =
         record {
           refused = λ n. ⊎-elim (λ e. absurd (n (fits-out b e))) board-unfit (either (boardFits b));
-          only = λ e f. absurd (omega (arith, e, fit-number f));
+          only = λ e f. ⊎-elim (λ r. absurd (omega (arith, e, r .most))) (λ s. absurd (omega (arith, e, room-number s))) (fit-cases f);
         }
-
-    success-fits : board limits attention b list .answer .number ≡ 0 → Fits b
-    success-fits e =
-        ⊎-elim (fits-out b)
-        (λ u. let x : _≡_ {A = ℕ} 20 0 = sym (ap (λ o. o .answer .number) (board-unfit u)) ∙ e in absurd (omega (arith, x)))
-        (either (boardFits b))
-
-    success-none : (f : Fits b) → board limits attention b list .answer .number ≡ 0 → NoneRefused limits attention b
-    success-none f e =
-        ⊎-elim
-        (λ s. absurd (omega (arith, e, ap (λ o. o .answer .number) (board-stops f list s), first-refused f s .refused .least)))
-        (none-refused f)
-        (join-cases limits attention (slotAt b) (slotCount b))
-
-    success-room : (f : Fits b) (none : NoneRefused limits attention b) → board limits attention b list .answer .number ≡ 0 → needed limits attention b ≤ length list / 16
-    success-room f none e =
-        ⊎-elim (λ h. h)
-        (λ h. let x : _≡_ {A = ℕ} 19 0 = sym (ap (λ o. o .answer .number) (is-full f list none h)) ∙ e in absurd (omega (arith, x)))
-        (room-or-full (needed limits attention b) list)
 
     succeeded : board limits attention b list .answer .number ≡ 0 → Succeeded limits attention b list
     succeeded e =
-        let f = success-fits e in
-        let none = success-none f e in
-        let room = success-room f none e in
-        record { fits = f; none = none; own = λ k h. own-records f list none k h room; noOther = λ k h. no-records f list none k h room }
+        ⊎-elim (λ r. absurd (omega (arith, e, r .refusal .least)))
+        (λ s. record {
+          fits = s .fits;
+          none = s .none;
+          own = λ k h. own-records (s .fits) list (s .none) k h (s .room);
+          noOther = λ k h. no-records (s .fits) list (s .none) k h (s .room);
+        })
+        cases
 
     pub boards : Boards limits attention b list
-    boards = record { unfit = unfit; decides = λ f. decides f list; otherwise = λ f. joins-all f list; succeeded = succeeded }
+    boards = record { ends = ends; sized = sized; unfit = unfit; decides = λ f. decides f list; otherwise = λ f. joins-all f list; succeeded = succeeded }
 
 -- The records of a slot come from its number, its file, its readings and the type.
 module _ (limits : Limits) (attention : ℕ) where

@@ -14,23 +14,26 @@ use Rattle.format.proofs.NumberedLaws.{kind-some}
 use Rattle.isolation.specs.declared.Isolated
 use Rattle.isolation.specs.declared.Isolated.{Isolated}
 use Rattle.isolation.specs.declared.Isolation.{Isolation}
-use Rattle.isolation.specs.Outcome.{outcomeOf, isolate}
+use Rattle.isolation.specs.Outcome.{Outcome, refusedOutcome, outcomeOf, isolate}
 use Rattle.listing.specs.Records.{recordSize, listing, recordsOf}
 use Rattle.isolation.proofs.GraphsLaws.{listing-length}
 use Rattle.isolation.proofs.OutcomeLaws.{Refused, Succeeds, succeeds-in, outcome-cases}
-use Rattle.demands.specs.Demand1.{RefusedCall, Demand1, Refuses}
+use Rattle.demands.specs.Demand1.{Refusal, RefusedCall, Demand1, Refuses}
+
+pub refusal : (n p : ℕ) (list : List ℕ) (o : Outcome) → 1 ≤ n → o ≡ refusedOutcome n p list → Refusal list o
+refusal n p list o l e =
+    let m : o .number ≡ n = ap (λ o. o .number) e in
+    record { least = omega (arith, m, l); records = ap (λ o. o .records) e; steps = ap (λ o. o .steps) e; keeps = ap (λ o. o .list) e }
+
+-- A list with room for some records is as long with them.
+pub list-length : (c : ℕ) (rs list : List ℕ) → length rs ≡ c * 16 → c ≤ length list / 16 → length (rs ++ drop (c * 16) list) ≡ length list
+list-length c rs list w h = length-append rs (drop (c * 16) list) ∙ omega (arith, w, h, length-drop (c * 16) list)
 
 module _ (of : LimitSet) (file : List ℕ) (attention : ℕ) (words read list : List ℕ) where
   refused-call : Refused list (isolate (limitsOf of) file attention words read list) → RefusedCall list (isolate (limitsOf of) file attention words read list)
   refused-call r =
       let n : isolate (limitsOf of) file attention words read list .number ≡ r .number = ap (λ o. o .number) (r .is) in
-      record {
-        least = omega (arith, r .low);
-        most = omega (arith, r .high);
-        records = ap (λ o. o .records) (r .is);
-        steps = ap (λ o. o .steps) (r .is);
-        keeps = ap (λ o. o .list) (r .is);
-      }
+      record { refusal = refusal (r .number) (r .place) list _ (r .low) (r .is); most = omega (arith, r .high) }
 
   success-length : (s : Succeeds (limitsOf of) file attention words read list) → length (isolate (limitsOf of) file attention words read list .list) ≡ length list
   unfolding recordSize chipGraph
@@ -43,7 +46,7 @@ module _ (of : LimitSet) (file : List ℕ) (attention : ℕ) (words read list : 
       let fits : length ls ≤ length list / 16 = leb-true _ _ (s .room) in
       let whole : length rs ≡ length ls * 16 = listing-length c 0 attention g p refl in
       let is : isolate (limitsOf of) file attention words read list .list ≡ rs ++ drop (length ls * 16) list = ap (λ o. o .list) (succeeds-in (limitsOf of) file attention words read list s) in
-      ap length is ∙ length-append rs (drop (length ls * 16) list) ∙ omega (arith, length-drop (length ls * 16) list)
+      ap length is ∙ list-length (length ls) rs list whole fits
 
   pub demand1 : Demand1 of file attention words read list
   demand1 =

@@ -1,7 +1,7 @@
 -- The slots of a board and the records of a slot: what isolation finds for a slot is what it finds for slot 0, with the slot's number in each record.
 use Prim.Native.Nat.{ℕ, zero, suc, _+_, _*_, _/_, _%_, _^_, _≤_, _<_}
 use mathlib.Core.Bool.{Bool, true, false, cond}
-use mathlib.Core.List.{List, [], _∷_, _++_, map, map-append, append-assoc, append-nil}
+use mathlib.Core.List.{List, [], _∷_, _++_, map, map-append, map-map, append-assoc, append-nil}
 use mathlib.Core.Logic.{⊎-elim}
 use mathlib.Core.Path.{_≡_, refl, sym, _∙_, ap}
 use native.Mathlib.Omega.{arith}
@@ -21,15 +21,14 @@ use Rattle.format.specs.References.{Fault}
 use Rattle.format.specs.Rules.{Every}
 use Rattle.format.specs.Tree.{Root, Chip}
 use Rattle.format.specs.Verdict.{verdict}
-use Rattle.format.proofs.EveryLaws.{every-map, every-list-in}
+use Rattle.format.proofs.EveryLaws.{every-all, every-map, every-list-in}
 use Rattle.format.proofs.GatheredLaws.{gathered-one, gathered-map}
 use Rattle.format.proofs.PositionsLaws.{at-inside}
 use Rattle.listing.specs.Records.{bitBytes, recordOf, recordBytes, listing, linkRecord, recordsOf}
-use Rattle.listing.proofs.WriteLaws.{record-length}
 use Rattle.isolation.specs.ChipGraph.{chipGraph}
 use Rattle.isolation.specs.Outcome.{reachedUnread, Findings, stopped, found, foundFrom, allRead, fromRoot, findIn, find}
 use Rattle.isolation.specs.Readings.{readingsFit}
-use Rattle.isolation.proofs.GraphsLaws.{listing-inside, listing-length}
+use Rattle.isolation.proofs.GraphsLaws.{listing-inside, records-of-length, listing-length}
 use Rattle.isolation.proofs.OutcomeLaws.{finds-in, found-out}
 use Rattle.board.specs.Board.{Board, total, Slot, slotsFrom, slotsOf}
 use Rattle.board.proofs.JoinLaws.{gathered-last}
@@ -47,6 +46,11 @@ records-rows [] rest h = refl
 records-rows (r ∷ rs) rest h =
     rw (append-assoc r (gathered (λ x. x) rs) rest)
     (rw (take-at r (gathered (λ x. x) rs ++ rest) 16 (h .0), drop-at r (gathered (λ x. x) rs ++ rest) 16 (h .0), records-rows rs rest (h .1)))
+
+pub rows-length : (rs : List (List ℕ)) → Every Whole rs → length (gathered (λ r. r) rs) ≡ length rs * 16
+unfolding gathered Every
+rows-length [] h = refl
+rows-length (r ∷ rs) h = length-append r (gathered (λ x. x) rs) ∙ omega (arith, h .0, rows-length rs (h .1))
 
 pub records-count : (n : ℕ) (list : List ℕ) → length (recordsIn n list) ≡ n
 unfolding recordsIn
@@ -124,10 +128,8 @@ module _ (f : ℕ → List (List ℕ)) (k : ℕ) where
 
 module _ (c : Chip) (attention : ℕ) where
   link-whole : (slot : ℕ) (l : Link) → l .instance < length (nodeEntries c) → Whole (linkRecord c slot attention l)
-  unfolding linkRecord recordBytes
-  link-whole slot l h =
-      let r = at-inside (l .instance) (nodeEntries c) h in
-      rw (r .1) (ap length (gathered-one (recordBytes (c .model) slot attention (l .bit)) (r .0)) ∙ record-length (c .model) slot attention (l .bit) _ _)
+  unfolding recordsOf Every
+  link-whole slot l h = ap length (sym (gathered-one (linkRecord c slot attention) l)) ∙ records-of-length c slot attention (l ∷ []) (h, tt)
 
   link-slot : (k : ℕ) → k < 256 → (l : Link) → l .instance < length (nodeEntries c) → withSlot k (linkRecord c 0 attention l) ≡ linkRecord c k attention l
   unfolding linkRecord recordBytes
@@ -155,7 +157,7 @@ module _ (c : Chip) (attention : ℕ) where
   slot-links k b [] h = refl
   slot-links k b (l ∷ ls) h = rw (link-slot k b l (h .0), slot-links k b ls (h .1))
 
-  pub slot-records : (k : ℕ) → k < 256 → (ls : List Link) → Every Inside ls
+  slot-records : (k : ℕ) → k < 256 → (ls : List Link) → Every Inside ls
       → gathered (λ r. r) (map (withSlot k) (recordsIn (length ls) (recordsOf c 0 attention ls))) ≡ recordsOf c k attention ls
   slot-records k b ls h = ap (λ rs. gathered (λ r. r) (map (withSlot k) rs)) (link-records ls h) ∙ slot-links k b ls h
 
@@ -225,7 +227,7 @@ found-whole limits file attention words read {count} {records} {steps} e =
 
 -- The slots of a board
 
-abbrev pub slotWith : ℕ → List ℕ → List ℕ → List ℕ → Slot
+abbrev slotWith : ℕ → List ℕ → List ℕ → List ℕ → Slot
 slotWith k file words read = record { number = k; file = file; words = words; read = read }
 
 abbrev pub slotAt : Board → ℕ → Slot
@@ -236,13 +238,10 @@ unfolding below
 below-first zero = refl
 below-first (suc n) = ap (λ xs. xs ++ (suc n ∷ [])) (below-first n) ∙ ap (λ xs. 0 ∷ xs) (sym (map-append suc (below n) (n ∷ [])))
 
-pub map-same : {A B : Type 0} (f g : A → B) → ((x : A) → f x ≡ g x) → (xs : List A) → map f xs ≡ map g xs
-map-same f g e [] = refl
-map-same f g e (x ∷ xs) = rw (e x, map-same f g e xs)
-
-map-map : {A B C : Type 0} (f : B → C) (g : A → B) (h : A → C) → ((x : A) → f (g x) ≡ h x) → (xs : List A) → map f (map g xs) ≡ map h xs
-map-map f g h e [] = refl
-map-map f g h e (x ∷ xs) = rw (e x, map-map f g h e xs)
+pub map-every : {A B : Type 0} (f g : A → B) (xs : List A) → Every (λ x. f x ≡ g x) xs → map f xs ≡ map g xs
+unfolding Every
+map-every f g [] h = refl
+map-every f g (x ∷ xs) h = rw (h .0, map-every f g xs (h .1))
 
 part-first : (n : ℕ) (ns lent : List ℕ) → part 0 (n ∷ ns) lent ≡ take n lent
 unfolding part total
@@ -261,7 +260,8 @@ slots-from k (f ∷ fs) (w ∷ ws) [] files words read e d = absurd (omega arith
 slots-from k (f ∷ fs) (w ∷ ws) (r ∷ rs) files words read e d =
     let h : ℕ → Slot = λ i. slotWith (k + i) (part i (f ∷ fs) files) (part i (w ∷ ws) words) (part i (r ∷ rs) read) in
     let t : ℕ → Slot = λ i. slotWith (suc k + i) (part i fs (drop f files)) (part i ws (drop w words)) (part i rs (drop r read)) in
-    let tail : map h (map suc (below (length fs))) ≡ map t (below (length fs)) = map-map h suc t more (below (length fs)) in
+    let tail : map h (map suc (below (length fs))) ≡ map t (below (length fs)) =
+    map-map h suc (below (length fs)) ∙ map-every (λ i. h (suc i)) t (below (length fs)) (every-all _ more (below (length fs))) in
     let first : slotWith k (take f files) (take w words) (take r read) ≡ h 0 = here in
     rw (slots-from (suc k) fs ws rs (drop f files) (drop w words) (drop r read) (omega arith) (omega arith))
     (ap (λ x. x ∷ map t (below (length fs))) first ∙ ap (λ xs. h 0 ∷ xs) (sym tail) ∙ ap (map h) (sym (below-first (length fs))))
@@ -277,4 +277,4 @@ pub slots-are : (b : Board) → length (b .wordLengths) ≡ slotCount b → leng
 unfolding slotsOf
 slots-are b w r =
     slots-from 0 (b .fileLengths) (b .wordLengths) (b .readLengths) (b .files) (b .words) (b .read) w r
-    ∙ map-same _ (slotAt b) (λ i. let e : 0 + i ≡ i = omega arith in rw e) (below (slotCount b))
+    ∙ map-every _ (slotAt b) (below (slotCount b)) (every-all _ (λ i. let e : 0 + i ≡ i = omega arith in rw e) (below (slotCount b)))

@@ -2,7 +2,7 @@
 use Prim.Native.Nat.{ℕ, zero, suc, _*_, _/_, _≤_, _<_}
 use mathlib.Core.Bool.{cond}
 use mathlib.Core.List.{List, [], _∷_, _++_, map}
-use mathlib.Core.Logic.{_↔_}
+use mathlib.Core.Logic.{_↔_, _⊎_}
 use mathlib.Core.Path.{_≡_}
 use lib.Dec.{eqb}
 use lib.ListN.{length, getD, take, drop, replicate}
@@ -11,6 +11,7 @@ use Rattle.graph.specs.Chains.{below}
 use Rattle.format.specs.Lookup.{gathered}
 use Rattle.isolation.specs.Outcome.{Outcome, refusedOutcome, doneOutcome, isolate}
 use Rattle.board.specs.Board.{Board, boardOf, total, boardOutcome, board}
+use Rattle.demands.specs.Demand1.{RefusedBoardCall}
 
 -- The slots of a board are numbered from 0 up.
 abbrev pub slotCount : Board → ℕ
@@ -131,8 +132,11 @@ module _ (limits : Limits) (attention : ℕ) (b : Board) where
       -- No record has another number.
       pub noOther : (k : ℕ) → slotCount b ≤ k → listedFor k (board limits attention b list .answer) ≡ []
 
-    -- What document 02 (vi) says of a board's answer.
+    -- What document 02 (vi) says of a board's answer, and demand 1 of the minutes.
     pub record Boards : Type 0 where
+      -- Whether the board fits or not: the call succeeds or is refused, and the list keeps its length.
+      pub ends : (board limits attention b list .answer .number ≡ 0) ⊎ RefusedBoardCall list (board limits attention b list .answer)
+      pub sized : length (board limits attention b list .answer .list) ≡ length list
       pub unfit : Unfit
       pub decides : Fits b → FirstDecides
       pub otherwise : Fits b → NoneRefused → Joins
