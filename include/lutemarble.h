@@ -83,7 +83,7 @@ extern "C" {
 
 /* The bytes of stack that each call needs for the largest files: 640 KB for the first three, 1 MB for board and 320 KB for
  * report. A file of at most 256 bytes, with at most 32 register instances and 8 node instances, needs far less: sample B1
- * of docs/FORMAT.md some 22 KB, and 56 KB in report. */
+ * of docs/FORMAT.md some 22 KB, 34 KB for a board of 16 of it, and 88 KB in report. */
 #define LUTEMARBLE_CHECK_STACK 655360
 #define LUTEMARBLE_ADDRESS_STACK 655360
 #define LUTEMARBLE_ISOLATE_STACK 655360

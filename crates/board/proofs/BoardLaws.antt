@@ -12,6 +12,7 @@ use Rattle.limits.specs.Limits.{libraryLimits, slots, boardNodeInstances}
 use Rattle.format.specs.declared.Refusal.{Refusal}
 use Rattle.listing.specs.Records.{recordSize}
 use Rattle.listing.specs.Rows.{rowsOf, firstRows, keptCount, keptRecords}
+use Rattle.listing.proofs.KeptLaws.{most-rows}
 use Rattle.isolation.specs.declared.Isolated
 use Rattle.isolation.specs.declared.Isolated.{Isolated}
 use Rattle.isolation.specs.declared.Kept.{Kept}
@@ -25,10 +26,6 @@ use Rattle.board.proofs.SumsLaws.{Fitting}
 pub most-slots : slots ≡ 16
 unfolding slots
 most-slots = refl
-
-pub most-rows : boardNodeInstances ≡ 16384
-unfolding boardNodeInstances slots
-most-rows = refl
 
 -- Rows of all slots.
 pub few-rows : (b : Board) → Fitting b → (heads : List ℕ) (n : ℕ) → n ≤ length (b .fileLengths) * libraryLimits .nodeInstances → n ≤ length heads → length (take n heads) ≤ boardNodeInstances

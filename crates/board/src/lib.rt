@@ -104,7 +104,7 @@ const MIDDLE_ROWS: usize = 2_048;
 fn larger_tables(bytes: usize) -> usize
     ensures { λ r. ⌜ r ≤ 2 ⌝ }
 {
-    if bytes <= 4_096 {
+    if bytes <= 2_048 {
         return 2;
     }
     if bytes <= 65_536 {
@@ -334,7 +334,7 @@ fn board_with(
     )
 }
 
-// Isolation of a board: the records of all slots in the lent list, in slot order; how many they are, and the steps of all. Or a refusal with its slot, and the list keeps its bytes. Each list of lengths has an entry for each slot: the bytes of its file, its words and its read bytes. A file is checked and isolated once where the tables for the rows are long enough; nothing is written before it is known that no slot is refused and that there is room for all.
+// Isolation of a board: the records of all slots in the lent list, in slot order; how many they are, and the steps of all. Or a refusal with its slot, and the list keeps its bytes. Each list of lengths has an entry for each slot: the bytes of its file, its words and its read bytes. Each file is checked and isolated as by the call for one chip, and once more where the tables for the rows were too short; nothing is written before it is known that no slot is refused and that there is room for all.
 pub fn board(
     files: &[u8],
     file_lengths: &[u64],

@@ -21,10 +21,10 @@ use Rattle.reader.proofs.ExaminedLaws.{roomy}
 use Rattle.listing.specs.Rows.{firstRows}
 use Rattle.isolation.specs.declared.Found
 use Rattle.isolation.specs.declared.Found.{Found}
-use Rattle.isolation.specs.Outcome.{Outcome, refusedOutcome, Findings, stopped, found, find, inList}
+use Rattle.isolation.specs.Outcome.{Outcome, refusedOutcome, Findings, stopped, find, inList}
 use Rattle.isolation.specs.Ready.{roomIn}
 use Rattle.isolation.specs.Rows.{foundOf, RowsWithin, isFound, lentRoom}
-use Rattle.isolation.proofs.OutcomeLaws.{find-cases, finds-in}
+use Rattle.isolation.proofs.OutcomeLaws.{stopped-number, found-not-stopped, find-cases, finds-in}
 
 -- Rows within tables
 
@@ -89,28 +89,16 @@ own-answered limits k file list x e d = answered (roomFor limits (classRoom k) f
 pub class-exact : (attention : ℕ) (f : Found) (heads words : List ℕ) (b : Bool) (x : Findings) → foundOf attention f heads words ≡ cond b x (stopped 43 0) → isFound f ≡ true → foundOf attention f heads words ≡ x
 unfolding isFound
 class-exact attention f heads words true x e h = e
-class-exact attention (Found.Rows k) heads words false x e h = absurd (differ e)
-  where
-    differ : {n s p q : ℕ} {bs : List ℕ} → found n bs s ≡ stopped p q → ⊥
-    differ e = let z : _≡_ {A = ℕ} 0 1 = cc in absurd (omega arith)
-class-exact attention (Found.Refused r) heads words false x e h = clash h (ap not (eq-eqb _ 43 (number-is e)))
-  where
-    number-is : {n p m q : ℕ} → stopped n p ≡ stopped m q → n ≡ m
-    number-is e = cc
+class-exact attention (Found.Rows k) heads words false x e h = absurd (found-not-stopped e)
+class-exact attention (Found.Refused r) heads words false x e h = clash h (ap not (eq-eqb _ 43 (stopped-number e)))
 
 -- A file's findings are never 43.
 pub find-number : (limits : Limits) (slot : ℕ) (file : List ℕ) (attention : ℕ) (words read : List ℕ) {p : ℕ} → stopped 43 p ≡ find limits slot file attention words read → ⊥
 find-number limits slot file attention words read e =
     ⊎-elim
-    (λ s. let z : 43 ≡ s .number = number-is (e ∙ s .is) in omega (arith, s .high))
-    (λ s. differ (sym (finds-in limits file attention words read slot s) ∙ sym e))
+    (λ s. let z : 43 ≡ s .number = stopped-number (e ∙ s .is) in omega (arith, s .high))
+    (λ s. found-not-stopped (sym (finds-in limits file attention words read slot s) ∙ sym e))
     (find-cases limits file attention words read slot)
-  where
-    number-is : {n p m q : ℕ} → stopped n p ≡ stopped m q → n ≡ m
-    number-is e = cc
-
-    differ : {n s p q : ℕ} {bs : List ℕ} → found n bs s ≡ stopped p q → ⊥
-    differ e = let z : _≡_ {A = ℕ} 0 1 = cc in absurd (omega arith)
 
 pub exact-found : (limits : Limits) (slot : ℕ) (file : List ℕ) (attention : ℕ) (words read : List ℕ) (f : Found) (heads rows : List ℕ)
     → foundOf attention f heads rows ≡ find limits slot file attention words read → isFound f ≡ true

@@ -59,6 +59,13 @@ reached-eighteen c attention read g root =
 
 -- What is found
 
+-- What is stopped has one number, and is not found.
+pub stopped-number : {n p m q : ℕ} → stopped n p ≡ stopped m q → n ≡ m
+stopped-number e = cc
+
+pub found-not-stopped : {n s p q : ℕ} {bs : List ℕ} → found n bs s ≡ stopped p q → ⊥
+found-not-stopped e = let z : _≡_ {A = ℕ} 0 1 = cc in absurd (omega arith)
+
 -- A refusal by 1 to 18.
 pub record Stops (o : Findings) : Type 0 where
   pub number : ℕ
@@ -137,7 +144,7 @@ module _ (limits : Limits) (file : List ℕ) (attention : ℕ) (words read : Lis
 
 -- A refusal of isolation, or success
 
--- "Each refusal returns its number and place, zero records and zero steps, and the list keeps its bytes." The table's numbers are 1 to 19.
+-- "Each refusal returns its number and place, zero records and zero steps, and the list keeps its bytes." Isolation's numbers are 1 to 19.
 pub record Refused (list : List ℕ) (o : Outcome) : Type 0 where
   pub number : ℕ
   pub place : ℕ
@@ -198,7 +205,7 @@ module _ (limits : Limits) (file : List ℕ) (attention : ℕ) (words read list 
 
 -- What is found is bounded
 
--- "steps never exceed the node instances".
+-- Demand 3 of the steps: "So it never exceeds the node instances in the file".
 pub finds-steps : (limits : Limits) (file : List ℕ) (attention : ℕ) (words read : List ℕ) (s : Finds limits file attention words read)
     → reachedCount (chipGraph (s .chip) attention words read) (nodePosition (s .chip) (s .root .id) (s .root .number)) ≤ length (nodeEntries (s .chip))
 unfolding chipGraph reachedCount

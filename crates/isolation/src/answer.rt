@@ -224,7 +224,7 @@ pub fn find_by(
     })
 }
 
-// The answer for an accepted file, by its tables as the reader fills them. `active` and `unread` are to have a place for each node instance, and where one has not, the answer is 43 at 0. What `places` then holds is free.
+// The answer for an accepted file, by its tables as the reader fills them. `active` and `unread` are to have a place for each node instance, and where one has not, the answer is 43 at 0. What the other lent tables hold after the call is free.
 pub fn answer(
     file: &[u8],
     l: Layout,

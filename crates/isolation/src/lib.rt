@@ -62,7 +62,7 @@ pub fn isolate(file: &[u8], attention: u8, words: &[u64], read: &[u8], list: &mu
     )
 }
 
-// What isolation finds in the file of a slot, as rows at the front of two lent tables; or a refusal. Tables with a place for each of 1,024 node instances are long enough for every file; where shorter ones are not, the answer is 43 at 0. What else the tables then hold is free.
+// What isolation finds in the file of a slot, as rows at the front of two lent tables; or a refusal. Tables with a place for each of 1,024 node instances are long enough for every file; shorter ones may be too short for the tables that a file of its length gets, and then the answer is 43. For which files it is, and what else the tables hold after the call, is free.
 pub fn find(
     file: &[u8],
     slot: u8,

@@ -14,7 +14,7 @@ ghost use Rattle.listing.specs.Rows.{rowsOf, keptCount, keptRecords};
 ghost use Rattle.isolation.specs.Outcome.{outcomeOf, written, inList};
 ghost use Rattle.isolation.specs.Rows.{foundOf, RowsWithin};
 
-// The answer by some rows: their records in the lent list, or 19 and the list keeps its bytes. Of more rows than a board has node instances it is free.
+// The answer by some rows: their records in the lent list, or 19 and the list keeps its bytes. With more heads than a board has node instances it is free.
 pub fn write_rows(
     list: &mut [u8],
     attention: u8,
@@ -35,7 +35,7 @@ pub fn write_rows(
     }
 }
 
-// The answer by what was found, from the tables that hold its rows. Where these are too short for them it is 43 at 0.
+// The answer by what was found, from the tables that hold its rows. Where they do not hold so many, or these are more than a file has node instances, it is free.
 pub fn write_found(
     list: &mut [u8],
     attention: u8,

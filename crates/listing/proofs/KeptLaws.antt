@@ -9,6 +9,7 @@ use borrow.Author.Tests.{eqb-true, eq-eqb, ne-eqb}
 use lib.Dec.{eqb}
 use lib.ListN.{length, getD, set, take, length-append}
 use lib.Seq.{take-suc, take-suc-set, take-length, length-take-le}
+use Rattle.limits.specs.Limits.{slots, boardNodeInstances}
 use Rattle.graph.specs.Chains.{Graph, below}
 use Rattle.format.specs.Lookup.{gathered}
 use Rattle.format.proofs.GatheredLaws.{gathered-append, gathered-one}
@@ -184,6 +185,11 @@ pub table-kept : (model slot : ℕ) (keys marks act ch : List ℕ) (n : ℕ) →
     → (keptCount rs ≡ length (tableLinks marks act ch)) × ((attention : ℕ) → keptRecords attention rs ≡ tableRecords model slot attention keys marks act ch)
 unfolding tableLinks tableRecords
 table-kept model slot keys marks act ch n size k = rw (← size) (k .count, k .records)
+
+-- A board's rows.
+pub most-rows : boardNodeInstances ≡ 16384
+unfolding boardNodeInstances slots
+most-rows = refl
 
 -- Counting: row after row.
 pub count-none : (heads words : List ℕ) → 0 ≡ keptCount (firstRows 0 heads words)

@@ -136,7 +136,7 @@ fn keep_rows(
     k
 }
 
-// The rows of the done instances that have a listed bit, at the front of two tables that have a place for each instance, and how many they are. What the tables hold behind them is free.
+// The rows of the done instances that have a listed bit, at the front of two tables that have a place for each instance, and how many they are. What the tables hold behind them is free, and so are the rows where a table has fewer places.
 pub fn keep_list(
     heads: &mut [u64],
     words: &mut [u64],
@@ -241,7 +241,7 @@ fn put_rows(list: &mut [u8], attention: u8, heads: &[u64], words: &[u64], n: usi
     place
 }
 
-// The records of some rows, where there is room for all of them; otherwise the list keeps its bytes. Of more rows than a board has node instances the answer is free.
+// The records of some rows, where there is room for all of them; otherwise the list keeps its bytes. With more heads than a board has node instances the answer is free.
 pub fn write_list(list: &mut [u8], attention: u8, heads: &[u64], words: &[u64]) -> Listing
     ensures { λ r. ⌜ (length (now (heads .entry)) ≤ boardNodeInstances
         → (listingValues r ≡ listingFor (keptCount (rowsOf (now (heads .entry)) (now (words .entry)))) (length (now (list .entry))))

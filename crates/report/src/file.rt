@@ -57,7 +57,7 @@ fn decode_named(readings: &[u8], keys: &[u64], words: &mut [u64], read: &mut [u8
     }
 }
 
-// The answer for an accepted file, by its tables as the reader fills them and a readings file, which is decoded to `words` and `read`. No readings do not fit: a file has a register instance. Where a table has no place for each instance, 43 at 0. What `places` then holds is free.
+// The answer for an accepted file, by its tables as the reader fills them and a readings file, which is decoded to `words` and `read`. No readings do not fit: a file has a register instance. Where a table has no place for each instance, 43 at 0. What the other lent tables hold after the call is free.
 fn isolate_named(
     file: &[u8],
     l: Layout,

@@ -1,16 +1,16 @@
-use Prim.Native.Nat.{ℕ, _+_, _-_, _*_, _≤_, _<_}
+use Prim.Native.Nat.{ℕ, _+_, _-_, _≤_, _<_}
 use mathlib.Core.Path.{_≡_, refl, sym, _∙_}
 use native.Mathlib.Omega.{arith}
 use borrow.Author.Needs.{needs}
-use borrow.Rule.Slice.PartMut.{midOf, putMid}
+use borrow.Rule.Slice.PartMut.{midOf}
 use lib.ListN.{length, getD}
 use lib.Seq.{length-take-le}
 use borrow.Fn.Kinds.{In}
 use borrow.Fn.PlainCycle.{Measures, is, falls, and}
-use Rattle.limits.specs.Limits.{slots}
 use Rattle.isolation.proofs.WrittenLaws.{within-rows}
 use Rattle.board.specs.Rows.{isGathered}
-use Rattle.board.proofs.SlotsLaws.{mid-rest, mid-length, put-rest, first-within, others-total, others-length, at-least-one, no-slots, rest-is, slot-stopped, first-steps, later-stopped, later-joined, gathered-rows, put-joined, stopped-found, stopped-gathered}
+use Rattle.board.proofs.BoardLaws.{most-slots}
+use Rattle.board.proofs.SlotsLaws.{mid-rest, mid-length, first-within, others-total, others-length, at-least-one, no-slots, rest-is, slot-stopped, first-steps, later-stopped, later-joined, gathered-rows, put-joined, stopped-found, stopped-gathered}
 use Rattle.board.proofs.find_slots.Reads as find-slots
 use Rattle.board.proofs.find_slots.Kinds as find-slots-kinds
 use Rattle.board.proofs.+find_slots.Lts-find_slots as find-slots-lts
@@ -34,10 +34,6 @@ calls t = (
   find-slots-below t,
   find-slots.Post,
 )
-
-most : slots ≡ 16
-unfolding slots
-most = refl
 
 abbrev Entry : ℕ → Type 0
 Entry t = find-slots-lts.Start (calls t) (find-slots-at t) find-slots.Post
@@ -82,7 +78,7 @@ slice-aggregate-find : (t : ℕ) → find-slots-lts.Need-slice-aggregate-find (c
 slice-aggregate-find t c = sym (length-take-le _ _ (file-within t (c .before .before .before .before .before .before .before .before .before .before .before .before .before) (c .before .before .before .before .if1 .left)))
 
 cast-find : (t : ℕ) → find-slots-lts.Need-cast-find (calls t) (find-slots-at t) find-slots.Post
-cast-find t c = omega (arith, one-file t (c .before .before .before .before .before .before .before .before .before .before .before .before .before) (c .before .before .before .before .if1 .left), c .before .before .before .before .before .before .before .before .before .before .before .before .before .pre .1 .1 .2, most)
+cast-find t c = omega (arith, one-file t (c .before .before .before .before .before .before .before .before .before .before .before .before .before) (c .before .before .before .before .if1 .left), c .before .before .before .before .before .before .before .before .before .before .before .before .before .pre .1 .1 .2, most-slots)
 
 slice-aggregate-find-2 : (t : ℕ) → find-slots-lts.Need-slice-aggregate-find-2 (calls t) (find-slots-at t) find-slots.Post
 slice-aggregate-find-2 t c = sym (length-take-le _ _ (words-within t (c .before .before .before .before .before .before .before .before .before .before .before .before .before .before) (c .before .before .before .before .before .if1 .left)))
@@ -152,7 +148,7 @@ part-find-slots-end-6 : (t : ℕ) → find-slots-lts.Need-part-find-slots-end-6 
 part-find-slots-end-6 t c = omega (arith, one-read t (c .before .before .before .before .before .before .before .before .before .before .before .before .before .before .before .before .before .before .before .before .before .before .before .before .before .before .before .before .before .before) (c .before .before .before .before .before .before .before .before .before .before .before .before .before .before .before .before .before .before .before .before .before .if1 .left))
 
 add-find-slots : (t : ℕ) → find-slots-lts.Need-add-find-slots (calls t) (find-slots-at t) find-slots.Post
-add-find-slots t c = omega (arith, one-file t (c .before .before .before .before .before .before .before .before .before .before .before .before .before .before .before .before .before .before .before .before .before .before .before .before .before .before .before .before .before .before .before) (c .before .before .before .before .before .before .before .before .before .before .before .before .before .before .before .before .before .before .before .before .before .before .if1 .left), c .before .before .before .before .before .before .before .before .before .before .before .before .before .before .before .before .before .before .before .before .before .before .before .before .before .before .before .before .before .before .before .pre .1 .1 .2, most)
+add-find-slots t c = omega (arith, one-file t (c .before .before .before .before .before .before .before .before .before .before .before .before .before .before .before .before .before .before .before .before .before .before .before .before .before .before .before .before .before .before .before) (c .before .before .before .before .before .before .before .before .before .before .before .before .before .before .before .before .before .before .before .before .before .before .if1 .left), c .before .before .before .before .before .before .before .before .before .before .before .before .before .before .before .before .before .before .before .before .before .before .before .before .before .before .before .before .before .before .before .pre .1 .1 .2, most-slots)
 
 mul-find-slots-2 : (t : ℕ) → find-slots-lts.Need-mul-find-slots-2 (calls t) (find-slots-at t) find-slots.Post
 mul-find-slots-2 t c =
@@ -245,8 +241,7 @@ find-slots-requires t c κs =
     let some = c .before .before .before .before .before .before .before .before .before .before .before .before .before .before .before .before .before .before .before .before .before .before .before .before .if1 .left in
     let sums = s .pre .1 .0 in
     let counts = s .pre .1 .1 in
-    let others = others-few t s some in
-    (
+    let others = others-few t s some in (
       omega (arith, others, s .pre .0),
       (
         (others-total fl fl files some refl (sums .0), others-total fl wl words some (counts .0) (sums .1), others-total fl rl read some (counts .1) (sums .2)),
@@ -267,7 +262,7 @@ add-t78 t c =
     let w = within-rows (a .heads .now) (a .rows .now) e (f .ensures .1 .1) in
     let l = c .before .before .before .before .before .before .before .before .find-slots in
     let g = gathered-rows (length (midOf 1 (length fl - 1) fl)) _ _ (c .before .before .t .given .1) (l .ensures .1 .1) in
-    omega (arith, w .0, g .0, others, counts .2, most)
+    omega (arith, w .0, g .0, others, counts .2, most-slots)
 
 add-t79 : (t : ℕ) → find-slots-lts.Need-add-t79 (calls t) (find-slots-at t) find-slots.Post
 add-t79 t c =
@@ -289,7 +284,7 @@ add-t79 t c =
     let rows = f .last .1 .1 .1 .1 .1 .1 .0 in
     let l = c .before .before .before .before .before .before .before .before .before .before .find-slots in
     let g = gathered-rows (length (midOf 1 (length fl - 1) fl)) _ _ (c .before .before .before .before .t .given .1) (l .ensures .1 .1) in
-    omega (arith, first-steps (a .attention) (a .slot) fl wl rl files words read one (counts .0) (counts .1) heads rows e (f .ensures .0) (λ i. c .before .before .before .before .before .before .before .before .before .before .before .before .before .before .before .before .before .before .before .before .before .before .before .before .before .before .before .before .before .before .before .before .before .before .before .before .before .before .before .before .before .before .before .shared-slice-known .given i .fits), g .3, others, counts .2, most)
+    omega (arith, first-steps (a .attention) (a .slot) fl wl rl files words read one (counts .0) (counts .1) heads rows e (f .ensures .0) (λ i. c .before .before .before .before .before .before .before .before .before .before .before .before .before .before .before .before .before .before .before .before .before .before .before .before .before .before .before .before .before .before .before .before .before .before .before .before .before .before .before .before .before .before .before .shared-slice-known .given i .fits), g .3, others, counts .2, most-slots)
 
 same-length : (t : ℕ) → find-slots-lts.Need-same-length (calls t) (find-slots-at t) find-slots.Post
 same-length t c =
@@ -332,12 +327,11 @@ returns-2 t c =
     let l = c .before .before .before .before .before .before .before .before .before .before .find-slots in
     let tails = l .last .1 .1 .1 .1 .1 .1 .1 .1 .0 in
     let ends = l .last .1 .1 .1 .1 .1 .1 .1 .1 .1 .0 in
-    let g = gathered-rows (length (midOf 1 (length fl - 1) fl)) _ _ (c .before .before .before .before .t .given .1) (l .ensures .1 .1) in
-    (
+    let g = gathered-rows (length (midOf 1 (length fl - 1) fl)) _ _ (c .before .before .before .before .t .given .1) (l .ensures .1 .1) in (
       λ h.
-      put-joined (a .attention) _ heads rows tails ends n (omega (arith, w .1, kept-heads)) (omega (arith, w .2, kept-rows))
-      (later-joined (a .attention) (a .slot) fl wl rl files words read one (counts .0) (counts .1) heads rows e (f .ensures .0) tails ends (omega (arith, w .1, kept-heads)) (omega (arith, w .2, kept-rows)) (c .before .before .before .before .t .given .1)
-      (λ h. l .ensures .0 h ∙ rest-is (a .attention) (a .slot) fl wl rl files words read one (counts .0) (counts .1) (mid-rest fl 1 one) (mid-rest wl 1 one-w) (mid-rest rl 1 one-r) (mid-rest files _ in-files) (mid-rest words _ in-words) (mid-rest read _ in-read))),
+          put-joined (a .attention) _ heads rows tails ends n (omega (arith, w .1, kept-heads)) (omega (arith, w .2, kept-rows))
+          (later-joined (a .attention) (a .slot) fl wl rl files words read one (counts .0) (counts .1) heads rows e (f .ensures .0) tails ends (omega (arith, w .1, kept-heads)) (omega (arith, w .2, kept-rows)) (c .before .before .before .before .t .given .1)
+          (λ h. l .ensures .0 h ∙ rest-is (a .attention) (a .slot) fl wl rl files words read one (counts .0) (counts .1) (mid-rest fl 1 one) (mid-rest wl 1 one-w) (mid-rest rl 1 one-r) (mid-rest files _ in-files) (mid-rest words _ in-words) (mid-rest read _ in-read))),
       (
         λ p q. refl,
         (
@@ -388,13 +382,12 @@ returns-3 t c =
     let kept-rows = c .before .before .before .before .before .before .before .before .before .before .before .before .before .before .before .before .before .before .before .before .rows .given in
     let l = c .before .before .before .before .before .before .before .find-slots in
     let tails = l .last .1 .1 .1 .1 .1 .1 .1 .1 .0 in
-    let ends = l .last .1 .1 .1 .1 .1 .1 .1 .1 .1 .0 in
-    (
+    let ends = l .last .1 .1 .1 .1 .1 .1 .1 .1 .1 .0 in (
       λ h. later-stopped (a .attention) (a .slot) fl wl rl files words read one (counts .0) (counts .1) heads rows e (f .ensures .0) tails ends tails ends (c .before .t2 .given .1) (λ h. l .ensures .0 h ∙ rest-is (a .attention) (a .slot) fl wl rl files words read one (counts .0) (counts .1) (mid-rest fl 1 one) (mid-rest wl 1 one-w) (mid-rest rl 1 one-r) (mid-rest files _ in-files) (mid-rest words _ in-words) (mid-rest read _ in-read)) h,
       (
         λ p q.
-        stopped-gathered _ (c .before .t2 .given .1)
-        (l .ensures .1 .0 (omega (arith, p, w .0, w .1, kept-heads, mid-length heads n (omega (arith, w .1, kept-heads)), others)) (omega (arith, q, w .0, w .2, kept-rows, mid-length rows n (omega (arith, w .2, kept-rows)), others))),
+            stopped-gathered _ (c .before .t2 .given .1)
+            (l .ensures .1 .0 (omega (arith, p, w .0, w .1, kept-heads, mid-length heads n (omega (arith, w .1, kept-heads)), others)) (omega (arith, q, w .0, w .2, kept-rows, mid-length rows n (omega (arith, w .2, kept-rows)), others))),
         tt,
       ),
     )
@@ -420,8 +413,7 @@ returns-4 t c =
     let one = one-file t s some in
     let f = c .before .before .before .before .before .before .before .find in
     let heads = f .last .1 .1 .1 .1 .1 .0 in
-    let rows = f .last .1 .1 .1 .1 .1 .1 .0 in
-    (
+    let rows = f .last .1 .1 .1 .1 .1 .1 .0 in (
       λ h. slot-stopped (a .attention) (a .slot) fl wl rl files words read one (counts .0) (counts .1) heads rows (c .before .s2 .given .1) (f .ensures .0) h,
       (λ p q. stopped-found _ (c .before .s2 .given .1) (f .ensures .1 .0 (omega (arith, p, one)) (omega (arith, q, one))), tt),
     )

@@ -1,14 +1,13 @@
 -- The invariant: the bits of the first i rows have been counted.
 use Prim.Native.Nat.{_≤_, _-_}
-use mathlib.Core.Path.{_≡_, refl}
+use mathlib.Core.Path.{_≡_}
 use borrow.Author.Needs.{needs}
 use native.Mathlib.Omega.{arith}
 use lib.Count.{ones-le}
 use lib.ListN.{getD}
-use Rattle.limits.specs.Limits.{slots, boardNodeInstances}
 use Rattle.listing.specs.Rows.{firstRows, keptCount}
 use Rattle.listing.proofs.WordLaws.{set-ones}
-use Rattle.listing.proofs.KeptLaws.{count-none, count-next, count-few}
+use Rattle.listing.proofs.KeptLaws.{most-rows, count-none, count-next, count-few}
 use Rattle.listing.proofs.count_bits.Statement.{statement}
 use Rattle.listing.proofs.count_bits.Tie as tie
 
@@ -27,10 +26,6 @@ cast-count c =
     let w = getD (l .before .args .words .now) (l .loop .i) 0 in
     omega (arith, ones-le 64 w (omega (arith, c .shared-slice-known .given (l .loop .i) .fits)))
 
-most : boardNodeInstances ≡ 16384
-unfolding boardNodeInstances slots
-most = refl
-
 add-count : tie.Need-add-count Inv-loop μ-loop
 add-count c =
     let l = c .before .before in
@@ -43,7 +38,7 @@ add-count c =
       l .loop .inv .1,
       count-few (a .heads .now) (a .words .now) (l .loop .i) (omega (arith, s .pre .0, l .loop .inv .0)) (omega (arith, s .pre .1, l .loop .inv .0)),
       s .pre .2,
-      most,
+      most-rows,
     )
 
 loop-again : tie.Need-loop-again Inv-loop μ-loop

@@ -1,20 +1,15 @@
 use native.Mathlib.Omega.{arith}
-use mathlib.Core.Path.{_≡_, refl}
-use Rattle.limits.specs.Limits.{slots, boardNodeInstances}
+use Rattle.listing.proofs.KeptLaws.{most-rows}
 use Rattle.listing.proofs.WriteLaws.{room-yes, room-no, list-written, list-kept}
 use borrow.Author.Needs.{needs}
 use Rattle.listing.proofs.write_list.Statement.{statement}
 use Rattle.listing.proofs.write_list.Tie as tie
 
-most : boardNodeInstances ≡ 16384
-unfolding boardNodeInstances slots
-most = refl
-
 returns : tie.Need-returns
-returns c = λ h. absurd (omega (arith, h, most, c .if1 .taken, c .before .row-count .ensures .in-heads))
+returns c = λ h. absurd (omega (arith, h, most-rows, c .if1 .taken, c .before .row-count .ensures .in-heads))
 
 count-bits-requires : tie.Need-count-bits-requires
-count-bits-requires c κs = let r = c .before .row-count .ensures in (r .in-heads, r .in-words, omega (arith, most, c .if1 .left))
+count-bits-requires c κs = let r = c .before .row-count .ensures in (r .in-heads, r .in-words, omega (arith, most-rows, c .if1 .left))
 
 returns-2 : tie.Need-returns-2
 returns-2 c =
