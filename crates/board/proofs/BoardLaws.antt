@@ -2,13 +2,14 @@
 use Prim.Native.Nat.{ℕ, _*_, _/_, _≤_}
 use mathlib.Core.Bool.{Bool, true, false, cond, not}
 use mathlib.Core.List.{List, _++_}
+use mathlib.Core.Logic.{_⊎_, inl, inr, ⊎-elim}
 use mathlib.Core.Path.{_≡_, refl, sym, ap, _∙_}
 use native.Mathlib.Omega.{arith}
 use lib.ListN.{length, take, drop, replicate, length-replicate}
 use lib.Dec.{leb}
 use borrow.Author.Tests.{ne-eqb}
 use lib.Seq.{length-take-le}
-use Rattle.limits.specs.Limits.{libraryLimits, slots, boardNodeInstances}
+use Rattle.limits.specs.Limits.{Limits, libraryLimits, slots, boardNodeInstances}
 use Rattle.format.specs.declared.Refusal.{Refusal}
 use Rattle.listing.specs.Records.{recordSize}
 use Rattle.listing.specs.Rows.{rowsOf, firstRows, keptCount, keptRecords}
@@ -62,20 +63,25 @@ pub rows-gathered : (k : Kept) → isGathered (Gathered.Rows k) ≡ true
 unfolding isGathered
 rows-gathered k = refl
 
--- An answer by a list never is 43.
-written-number : (count : ℕ) (records : List ℕ) (steps : ℕ) (list : List ℕ) → written count records steps list .number ≡ 43 → ⊥
+-- An answer by a list has number 0 or 19.
+pub written-number : (count : ℕ) (records : List ℕ) (steps : ℕ) (list : List ℕ) → (written count records steps list .number ≡ 0) ⊎ (written count records steps list .number ≡ 19)
 unfolding written
 written-number count records steps list = go (leb count (length list / recordSize))
   where
-    go : (t : Bool) → cond t (doneOutcome count steps (records ++ drop (count * recordSize) list)) (refusedOutcome 19 count list) .number ≡ 43 → ⊥
-    go true e = absurd (omega arith)
-    go false e = absurd (omega arith)
+    go : (t : Bool)
+        → (cond t (doneOutcome count steps (records ++ drop (count * recordSize) list)) (refusedOutcome 19 count list) .number ≡ 0)
+        ⊎ (cond t (doneOutcome count steps (records ++ drop (count * recordSize) list)) (refusedOutcome 19 count list) .number ≡ 19)
+    go true = inl refl
+    go false = inr refl
 
 pub written-exact : (a : Isolated) (new : List ℕ) (count : ℕ) (records : List ℕ) (steps : ℕ) (list : List ℕ) → outcomeOf a new ≡ written count records steps list → isExact a ≡ true
 unfolding isExact
 written-exact (Isolated.Done i) new count records steps list e = refl
 written-exact (Isolated.Refused r) new count records steps list e =
-    ap not (ne-eqb _ 43 (λ z. written-number count records steps list (sym (ap (λ o. o .number) e) ∙ z)))
+    ap not
+    (ne-eqb _ 43 (λ z.
+    let n : written count records steps list .number ≡ 43 = sym (ap (λ o. o .number) e) ∙ z in
+    ⊎-elim (λ a. absurd (omega (arith, n, a))) (λ b. absurd (omega (arith, n, b))) (written-number count records steps list)))
 
 -- What was gathered of all slots.
 module _ (attention : ℕ) (b : Board) (g : Gathered) (heads rows : List ℕ)
@@ -94,11 +100,11 @@ pub full-tables : boardNodeInstances ≤ length (replicate {A = ℕ} 16384 0)
 full-tables = omega (arith, most-rows, length-replicate {A = ℕ} 16384 0)
 
 -- The whole answer.
-module _ (attention : ℕ) (b : Board) (list : List ℕ) where
-  pub board-fitting : boardFits b ≡ true → {o : BoardOutcome} → o ≡ inBoardList list (join libraryLimits attention (slotsOf b)) → o ≡ board libraryLimits attention b list
+module _ (limits : Limits) (attention : ℕ) (b : Board) (list : List ℕ) where
+  pub board-fitting : boardFits b ≡ true → {o : BoardOutcome} → o ≡ inBoardList list (join limits attention (slotsOf b)) → o ≡ board limits attention b list
   unfolding board
   board-fitting h e = rw h e
 
-  pub board-unfit : boardFits b ≡ false → boardOutcome 0 (refusedOutcome 20 0 list) ≡ board libraryLimits attention b list
+  pub board-unfit : boardFits b ≡ false → boardOutcome 0 (refusedOutcome 20 0 list) ≡ board limits attention b list
   unfolding board
   board-unfit h = rw h

@@ -3,3 +3,4 @@ pub mod JoinLaws
 pub mod SumsLaws
 pub mod SlotsLaws
 pub mod BoardLaws
+pub mod SamplesHold

@@ -82,6 +82,7 @@ module _ (b : Board) where
 
 -- What a board that fits has.
 pub record Fitting (b : Board) : Type 0 where
+  pub least : 1 ≤ length (b .fileLengths)
   pub most : length (b .fileLengths) ≤ 16
   pub word-list : length (b .wordLengths) ≡ length (b .fileLengths)
   pub read-list : length (b .readLengths) ≡ length (b .fileLengths)
@@ -98,6 +99,7 @@ fitting b h =
     let r₄ = and-right (eqb (length (b .readLengths)) (length (b .fileLengths))) _ r₃ in
     let r₅ = and-right (eqb (total (b .fileLengths)) (length (b .files))) _ r₄ in
     record {
+      least = leb-true _ _ (and-left _ _ h);
       most = leb-true _ _ (and-left _ _ r₁);
       word-list = eqb-true _ _ (and-left _ _ r₂);
       read-list = eqb-true _ _ (and-left _ _ r₃);

@@ -21,6 +21,7 @@ abbrev pub boardOf : List ℕ → List ℕ → List ℕ → List ℕ → List �
 boardOf files fileLengths words wordLengths read readLengths =
     record { files = files; fileLengths = fileLengths; words = words; wordLengths = wordLengths; read = read; readLengths = readLengths }
 
+-- What some lengths add up to, an exact number.
 unfoldable pub total : List ℕ → ℕ
 total [] = 0
 total (n ∷ ns) = n + total ns

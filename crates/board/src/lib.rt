@@ -33,7 +33,7 @@ pub enum Gathered {
     Refused(Refusal, usize),
 }
 
-// What the slots from a number on find, as rows at the front of two lent tables, or the first refusal. Where the tables are too short, 43 at 0. It calls itself for the slots behind the first.
+// What the slots from a number on find, as rows at the front of two lent tables, or the first refusal; 43 where the tables are too short. It calls itself for the slots behind the first.
 fn find_slots(
     files: &[u8],
     file_lengths: &[u64],

@@ -1,16 +1,16 @@
 -- What document 02 (vi) says of a board's answer holds, and demand 1 of the minutes.
 use Prim.Native.Nat.{ℕ, _+_, _*_, _/_, _≤_, _<_}
-use mathlib.Core.Bool.{true, false}
+use mathlib.Core.Bool.{true}
 use mathlib.Core.List.{List, [], _∷_, _++_, map, append-nil}
 use mathlib.Core.Logic.{_⊎_, inl, inr, ⊎-elim}
 use mathlib.Core.Path.{_≡_, refl, sym, _∙_, ap}
 use native.Mathlib.Omega.{arith}
-use lib.Dec.{ltb, leb, eqb}
+use lib.Dec.{ltb, leb}
 use lib.ListN.{length, getD, drop, replicate, length-map, length-append, length-replicate, drop-of-length-le}
 use lib.Seq.{take-length}
-use borrow.Author.Tests.{ltb-true, ltb-false, leb-true, leb-false, le-leb, lt-leb, eqb-true, eq-eqb}
+use borrow.Author.Tests.{ltb-true, ltb-false, leb-true, leb-false, le-leb, lt-leb, eq-eqb}
 use Rattle.limits.specs.Limits.{Limits, slots}
-use Rattle.numbers.proofs.Bools.{either, same?, and-left, and-right, and-both}
+use Rattle.numbers.proofs.Bools.{either, same?, and-both}
 use Rattle.graph.specs.Chains.{below}
 use Rattle.format.specs.Lookup.{gathered}
 use Rattle.format.specs.Rules.{Every}
@@ -19,10 +19,12 @@ use Rattle.format.proofs.GatheredLaws.{gathered-gathered, gathered-same}
 use Rattle.listing.specs.Records.{recordSize}
 use Rattle.isolation.specs.Outcome.{refusedOutcome, doneOutcome, Findings, stopped, found, find, written, inList, isolate}
 use Rattle.isolation.proofs.GraphsLaws.{every-below}
-use Rattle.isolation.proofs.OutcomeLaws.{finds-in, find-cases}
+use Rattle.isolation.proofs.OutcomeLaws.{stopped-number, found-not-stopped, finds-in, find-cases}
 use Rattle.board.specs.Board.{Board, total, boardFits, slotsFrom, slotsOf, joined, before, joinOne, join, boardOutcome, inBoardList, board}
 use Rattle.board.proofs.JoinLaws.{IsFound, countIn, stepsIn, FirstStops, AllFound, join-cases}
 use Rattle.board.proofs.JoinLaws as joins
+use Rattle.board.proofs.SumsLaws.{fitting}
+use Rattle.board.proofs.BoardLaws.{written-number, board-unfit}
 use Rattle.demands.specs.Boards.{slotCount, Fits, part, recordsIn, withSlot, ofSlot, listedFor, single, slotAnswer, RefusedSlot, FirstRefused, NoneRefused, needed, stepsInAll, recordsFor, joinedLists, BoardRefused, Unfit, FirstDecides, Joins, Succeeded, Boards, SameSlot, Independent, oneChip, OneSlot}
 use Rattle.demands.specs.Demand1.{RefusedCall, RefusedBoardCall}
 use Rattle.demands.proofs.Demand1.{refusal, list-length}
@@ -41,14 +43,11 @@ gathered-length f (x ∷ xs) = length-append (f x) (gathered f xs) ∙ ap (λ n.
 
 -- Findings
 
-stopped-number : {n p m q : ℕ} → stopped n p ≡ stopped m q → n ≡ m
-stopped-number e = cc
-
 stopped-place : {n p m q : ℕ} → stopped n p ≡ stopped m q → p ≡ q
 stopped-place e = cc
 
 not-both : {A : Type 0} {n p c s : ℕ} {rs : List ℕ} → stopped n p ≡ found c rs s → A
-not-both e = let z : _≡_ {A = ℕ} 0 1 = cc in absurd (omega arith)
+not-both e = absurd (found-not-stopped (sym e))
 
 -- What is written: with room for all, or refused by 19.
 written-room : (c : ℕ) (rs : List ℕ) (s : ℕ) (list : List ℕ) → c ≤ length list / 16 → written c rs s list ≡ doneOutcome c s (rs ++ drop (c * 16) list)
@@ -61,10 +60,6 @@ written-full c rs s list h = rw (lt-leb c (length list / 16) h)
 
 room-or-full : (c : ℕ) (list : List ℕ) → (c ≤ length list / 16) ⊎ (length list / 16 < c)
 room-or-full c list = ⊎-elim (λ e. inl (leb-true _ _ e)) (λ e. inr (leb-false _ _ e)) (either (leb c (length list / 16)))
-
-written-number : (c : ℕ) (rs : List ℕ) (s : ℕ) (list : List ℕ) → (written c rs s list .number ≡ 0) ⊎ (written c rs s list .number ≡ 19)
-written-number c rs s list =
-    ⊎-elim (λ h. inl (ap (λ o. o .number) (written-room c rs s list h))) (λ h. inr (ap (λ o. o .number) (written-full c rs s list h))) (room-or-full c list)
 
 -- An empty list tells how many are needed.
 written-place : (c : ℕ) (rs : List ℕ) (s : ℕ) → written c rs s [] .place ≡ c
@@ -81,29 +76,9 @@ fits-in b f =
     (and-both (eq-eqb _ _ (f .files)) (and-both (eq-eqb _ _ (f .words)) (eq-eqb _ _ (f .reads)))))))
 
 fits-out : (b : Board) → boardFits b ≡ true → Fits b
-unfolding boardFits slots
 fits-out b e =
-    let n = slotCount b in
-    let t1 = leb 1 n in
-    let t2 = leb n 16 in
-    let t3 = eqb (length (b .wordLengths)) n in
-    let t4 = eqb (length (b .readLengths)) n in
-    let t5 = eqb (total (b .fileLengths)) (length (b .files)) in
-    let t6 = eqb (total (b .wordLengths)) (length (b .words)) in
-    let e2 = and-right t1 _ e in
-    let e3 = and-right t2 _ e2 in
-    let e4 = and-right t3 _ e3 in
-    let e5 = and-right t4 _ e4 in
-    let e6 = and-right t5 _ e5 in
-    record {
-      least = leb-true _ _ (and-left t1 _ e);
-      most = leb-true _ _ (and-left t2 _ e2);
-      wordLists = eqb-true _ _ (and-left t3 _ e3);
-      readLists = eqb-true _ _ (and-left t4 _ e4);
-      files = eqb-true _ _ (and-left t5 _ e5);
-      words = eqb-true _ _ (and-left t6 _ e6);
-      reads = eqb-true _ _ (and-right t6 _ e6);
-    }
+    let f = fitting b e in
+    record { least = f .least; most = f .most; wordLists = f .word-list; readLists = f .read-list; files = f .files; words = f .words; reads = f .read }
 
 module _ (limits : Limits) (attention : ℕ) (b : Board) where
   -- What the single call finds in slot k.
@@ -408,10 +383,6 @@ module _ (limits : Limits) (attention : ℕ) (b : Board) where
         no-records k h l = listed-records k l ∙ of-none (recordsFor limits attention b) k (slotCount b) slots-bytes h
 
   module _ (list : List ℕ) where
-    board-unfit : boardFits b ≡ false → board limits attention b list ≡ boardOutcome 0 (refusedOutcome 20 0 list)
-    unfolding board
-    board-unfit e = rw e
-
     -- It fits, no slot is refused, and the list has room for all records.
     pub record AllRoom : Type 0 where
       pub fits : Fits b
@@ -448,7 +419,7 @@ module _ (limits : Limits) (attention : ℕ) (b : Board) where
     cases =
         ⊎-elim
         (λ t. ⊎-elim (λ r. inl (record { refusal = r .refusal; most = omega (arith, r .most) })) (λ s. inr s) (fit-cases (fits-out b t)))
-        (λ u. let a : board limits attention b list .answer ≡ refusedOutcome 20 0 list = ap (λ o. o .answer) (board-unfit u) in
+        (λ u. let a : board limits attention b list .answer ≡ refusedOutcome 20 0 list = sym (ap (λ o. o .answer) (board-unfit limits attention b list u)) in
         let m : board limits attention b list .answer .number ≡ 20 = ap (λ o. o .number) a in
         inl (record { refusal = refusal 20 0 list _ (omega arith) a; most = omega (arith, m) }))
         (either (boardFits b))
@@ -466,7 +437,7 @@ module _ (limits : Limits) (attention : ℕ) (b : Board) where
     unfit : Unfit limits attention b list
     unfit =
         record {
-          refused = λ n. ⊎-elim (λ e. absurd (n (fits-out b e))) board-unfit (either (boardFits b));
+          refused = λ n. ⊎-elim (λ e. absurd (n (fits-out b e))) (λ u. sym (board-unfit limits attention b list u)) (either (boardFits b));
           only = λ e f. ⊎-elim (λ r. absurd (omega (arith, e, r .most))) (λ s. absurd (omega (arith, e, room-number s))) (fit-cases f);
         }
 
