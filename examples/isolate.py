@@ -7,8 +7,8 @@ slot in each line of a listed bit and of a refusal.
 
 A file that cannot be read counts as empty, as it does for the station.
 
-It is also a module with all five calls of the proved library: check, address, isolate, board and report, over the shared
-library liblutemarble.so, which examples/build makes. It is looked for where the variable LUTEMARBLE_LIBRARY says, then
+It is also a module with all seven calls of the proved library: check, address, isolate, board, write, read and report, over
+the shared library liblutemarble.so, which examples/build makes. It is looked for where the variable LUTEMARBLE_LIBRARY says, then
 beside this file, then in target/examples of the repository. Standard library only.
 """
 import collections
@@ -18,7 +18,7 @@ import pathlib
 import sys
 
 SLOTS = 16                 # of the largest board
-FILE_BYTES = 1048576       # of the longest chip data file of check, address, isolate and board
+FILE_BYTES = 1048576       # of the longest chip data file of all calls but report
 REPORT_FILE_BYTES = 65536  # of the longest chip data file of report, which has the station's limits
 READINGS_BYTES = 131072    # of the longest readings file
 REPORT_READINGS_BYTES = 16384
@@ -60,6 +60,10 @@ def _library():
     library.lutemarble_board.argtypes = [lent, size, words, size, byte, words, size, words, size, lent, size, words, size,
                                          lent, size, words, size]
     library.lutemarble_board.restype = word
+    library.lutemarble_write.argtypes = [ctypes.c_uint32, lent, size, lent, size, words, size]
+    library.lutemarble_write.restype = word
+    library.lutemarble_read.argtypes = [lent, size, lent, size, words, size]
+    library.lutemarble_read.restype = word
     library.lutemarble_report.argtypes = [lent, size, byte, lent, size, lent, size]
     library.lutemarble_report.restype = size
     return library
@@ -123,6 +127,24 @@ def board(slots, attention_type):
     if number:
         raise Refused(number, place, slot)
     return _records(room, records), steps
+
+
+def write(model, records):
+    """The chip data file of a model/level and of records as docs/RECORDS.md has them, as bytes, or Refused."""
+    records, out = bytes(records), (ctypes.c_uint64 * 3)()
+    # A longer file is refused by 1.
+    room = ctypes.create_string_buffer(FILE_BYTES)
+    _calls.lutemarble_write(model, records, len(records), room, FILE_BYTES, out, 3)
+    return room.raw[:_answered(out)[0]]
+
+
+def read(file):
+    """The records of a chip data file, as bytes, or Refused."""
+    file, out = bytes(file), (ctypes.c_uint64 * 3)()
+    # Each record stands for a byte of the file or more.
+    room = ctypes.create_string_buffer(RECORD_BYTES * len(file))
+    _calls.lutemarble_read(file, len(file), room, len(room), out, 3)
+    return room.raw[:_answered(out)[0]]
 
 
 def decode(file, readings):

@@ -11,7 +11,7 @@
 //!
 //!     rustc -O examples/isolate.rs -L native=target/staticlib -o isolate
 //!
-//! The module `lutemarble` has all five calls as safe functions, to be copied.
+//! The module `lutemarble` has all seven calls as safe functions, to be copied.
 
 use std::fs::File;
 use std::io::{Read, Write};
@@ -23,8 +23,7 @@ use std::process::ExitCode;
 pub mod lutemarble {
     /// The most slots of a board.
     pub const SLOTS: usize = 16;
-    /// The bytes of the longest chip data file of `check`, `address`, `isolate`
-    /// and `board`.
+    /// The bytes of the longest chip data file of all calls but `report`.
     pub const FILE_BYTES: usize = 1_048_576;
     /// The bytes of the longest chip data file of `report`, which has the
     /// station's limits.
@@ -137,6 +136,23 @@ pub mod lutemarble {
             read_slots: usize,
             list: *mut u8,
             list_bytes: usize,
+            out: *mut u64,
+            places: usize,
+        ) -> u64;
+        fn lutemarble_write(
+            model: u32,
+            records: *const u8,
+            records_bytes: usize,
+            file: *mut u8,
+            file_bytes: usize,
+            out: *mut u64,
+            places: usize,
+        ) -> u64;
+        fn lutemarble_read(
+            file: *const u8,
+            file_bytes: usize,
+            records: *mut u8,
+            records_bytes: usize,
             out: *mut u64,
             places: usize,
         ) -> u64;
@@ -284,6 +300,50 @@ pub mod lutemarble {
         Ok((records_of(&list, records), steps))
     }
 
+    /// The chip data file of a model/level and of records as docs/RECORDS.md has
+    /// them.
+    pub fn write(model: u32, records: &[u8]) -> Result<Vec<u8>, Refusal> {
+        // A longer file is refused by 1.
+        let mut file = vec![0; FILE_BYTES];
+        let mut out = [0; 3];
+        // SAFETY: as in `check`; `file` and `out` are buffers of their own.
+        unsafe {
+            lutemarble_write(
+                model,
+                records.as_ptr(),
+                records.len(),
+                file.as_mut_ptr(),
+                file.len(),
+                out.as_mut_ptr(),
+                out.len(),
+            )
+        };
+        let [_, _, bytes] = answered(out)?;
+        file.truncate(bytes as usize);
+        Ok(file)
+    }
+
+    /// The records of a chip data file.
+    pub fn read(file: &[u8]) -> Result<Vec<u8>, Refusal> {
+        // Each record stands for a byte of the file or more.
+        let mut records = vec![0; 16 * file.len()];
+        let mut out = [0; 3];
+        // SAFETY: as in `check`; `records` and `out` are buffers of their own.
+        unsafe {
+            lutemarble_read(
+                file.as_ptr(),
+                file.len(),
+                records.as_mut_ptr(),
+                records.len(),
+                out.as_mut_ptr(),
+                out.len(),
+            )
+        };
+        let [_, _, bytes] = answered(out)?;
+        records.truncate(bytes as usize);
+        Ok(records)
+    }
+
     /// The readings of a readings file, as `isolate` and `board` take them. None
     /// at all where it does not fit the chip data file, which these calls then
     /// refuse by 17, or where that is refused itself.
@@ -420,7 +480,8 @@ fn main() -> ExitCode {
 #[cfg(test)]
 mod tests {
     use super::lutemarble::{
-        address, board, check, decode, isolate, report, BoardRefusal, Record, Refusal, Summary,
+        address, board, check, decode, isolate, read, report, write, BoardRefusal, Record, Refusal,
+        Summary,
     };
 
     const B1: &[u8] = b"CHIPDATA\x00\x00\x00\x01\x01\
@@ -457,6 +518,20 @@ mod tests {
         assert_eq!(board(&two, 6), refused(15, 0, 0));
         assert_eq!(board(&[], 3), refused(20, 0, 0));
         assert_eq!(board(&vec![slot(Some(1)); 17], 3), refused(20, 0, 0));
+    }
+
+    #[test]
+    fn records_of_b1() {
+        let records = read(B1).unwrap();
+        // A register, its instance, a node, its instance, a rule, a reading, a root.
+        let kinds: Vec<u8> = records.chunks(16).map(|record| record[0]).collect();
+        assert_eq!(kinds, [1, 2, 3, 4, 6, 7, 9]);
+        assert_eq!(write(1, &records), Ok(B1.to_vec()));
+        assert_eq!(write(1, &records[..96]), Err(refusal(5, 55)));
+        assert_eq!(write(1, &records[..80]), Err(refusal(40, 80)));
+        assert_eq!(write(1, &records[..79]), Err(refusal(40, 64)));
+        assert_eq!(write(1, &[]), Err(refusal(5, 17)));
+        assert_eq!(read(&B1[..59]), Err(refusal(2, 59)));
     }
 
     #[test]

@@ -1,7 +1,7 @@
 /* stack CHIP READINGS TYPE: the bytes of stack that each call of the library uses on these two files and this type, one
  * line a call, as the name and the number. Each call runs in a thread whose stack is full of a pattern; what is no longer
  * the pattern afterwards was used. The thread's own part, that of a call which does nothing, is taken off. The board has
- * the file and its readings in each of 16 slots. */
+ * the file and its readings in each of 16 slots; the records that are written are those of the file. */
 #include <pthread.h>
 #include <stdio.h>
 #include <stdlib.h>
@@ -33,6 +33,9 @@ static uint8_t board_read_bytes[LUTEMARBLE_SLOTS * MOST_INSTANCES];
 static uint64_t reading_lengths[LUTEMARBLE_SLOTS];
 static uint8_t list[LUTEMARBLE_BOARD_LIST_BYTES];
 static uint8_t text[LUTEMARBLE_TEXT_BYTES];
+static uint8_t records[LUTEMARBLE_FILE_RECORD_BYTES * MOST_FILE_BYTES];
+static size_t records_bytes;
+static uint8_t written[LUTEMARBLE_FILE_BYTES];
 static uint64_t out[LUTEMARBLE_CHECK_PLACES];
 
 static void *nothing(void *p)
@@ -66,6 +69,18 @@ static void *board(void *p)
     lutemarble_board(files, LUTEMARBLE_SLOTS * file_bytes, file_lengths, LUTEMARBLE_SLOTS, type, board_words, count,
                      reading_lengths, LUTEMARBLE_SLOTS, board_read_bytes, count, reading_lengths, LUTEMARBLE_SLOTS, list,
                      sizeof list, out, LUTEMARBLE_BOARD_PLACES);
+    return p;
+}
+
+static void *write_file(void *p)
+{
+    lutemarble_write(1, records, records_bytes, written, sizeof written, out, LUTEMARBLE_WRITE_PLACES);
+    return p;
+}
+
+static void *read_file(void *p)
+{
+    lutemarble_read(file, file_bytes, records, sizeof records, out, LUTEMARBLE_READ_PLACES);
     return p;
 }
 
@@ -135,11 +150,15 @@ int main(int argc, char **argv)
         file_lengths[i] = file_bytes;
         reading_lengths[i] = instances;
     }
+    lutemarble_read(file, file_bytes, records, sizeof records, out, LUTEMARBLE_READ_PLACES);
+    records_bytes = (size_t)out[2];
     own = used(nothing);
     printf("check %zu\n", used(check) - own);
     printf("address %zu\n", used(address) - own);
     printf("isolate %zu\n", used(isolate) - own);
     printf("board %zu\n", used(board) - own);
+    printf("write %zu\n", used(write_file) - own);
+    printf("read %zu\n", used(read_file) - own);
     printf("report %zu\n", used(report) - own);
     return 0;
 }

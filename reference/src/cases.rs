@@ -1,15 +1,17 @@
-//! Hand-made checker cases, and isolation and board calls in modules of their own. The
-//! verdicts are written from the papers; offsets stand beside the pieces that
-//! files are put together from.
+//! Hand-made checker cases, and isolation calls, board calls and those that write
+//! and read records in modules of their own. The verdicts are written from the
+//! papers; offsets stand beside the pieces that files are put together from.
 
 mod bits;
 mod boards;
 mod isolation;
 mod limits;
+mod records;
 
 pub use boards::BoardCase;
 pub use isolation::Isolation;
 pub use limits::AtALimit;
+pub use records::{Reading, Writing};
 
 use crate::hex;
 
@@ -112,6 +114,16 @@ pub fn isolations_of_bits() -> Vec<Isolation> {
 /// The board calls.
 pub fn boards() -> Vec<BoardCase> {
     boards::all()
+}
+
+/// The calls that write records.
+pub fn writings() -> Vec<Writing> {
+    records::all().writings
+}
+
+/// The calls that read records.
+pub fn readings() -> Vec<Reading> {
+    records::all().readings
 }
 
 /// Files at the limits and beyond them, with the station's text too.

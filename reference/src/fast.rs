@@ -7,6 +7,10 @@
 //! their node instances. No tree is built: what is needed again is read from
 //! the file again.
 
+mod records;
+
+pub use records::{read_records, write_records};
+
 use std::num::NonZeroU32;
 use std::ops::Range;
 

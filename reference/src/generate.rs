@@ -1,5 +1,5 @@
 //! Seeded cases for isolation: files, valid and damaged, with attention types,
-//! readings and room; and boards of several of them.
+//! readings and room; boards of several of them; and lists of records.
 //!
 //! The same seed gives the same cases.
 
@@ -12,6 +12,7 @@ mod draft;
 mod misfit;
 mod places;
 mod random;
+mod records;
 mod silent;
 
 pub use aimed::{aimed_case, full_list_case, large_case, too_large_case, Sizes, HIGHEST_NUMBER};
@@ -24,6 +25,7 @@ pub use draft::{valid_file, Field, FieldKind, FieldMap, Shape};
 pub use misfit::{Misfit, MISFITS};
 pub use places::{Crowd, Places, CLASSES};
 pub use random::Random;
+pub use records::{aimed_writing, reading_room, writing_around, Writing, WRITING_NUMBERS};
 
 use crate::isolation;
 use crate::layout::{self, Limits};

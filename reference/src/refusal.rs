@@ -22,9 +22,12 @@ pub const READINGS_DO_NOT_FIT: u8 = 17;
 pub const REGISTER_UNREAD: u8 = 18;
 pub const NO_ROOM: u8 = 19;
 pub const BOARD_DOES_NOT_ADD_UP: u8 = 20;
+pub const RECORD_NOT_ALLOWED: u8 = 40;
+pub const OUTPUT_TOO_SHORT: u8 = 41;
 
-/// Why a call gave no answer. The place is a byte offset in the file, or 0,
-/// or for [`NO_ROOM`] the number of records needed.
+/// Why a call gave no answer. The place is a byte offset in the file, or 0; for
+/// [`NO_ROOM`] the number of records needed; for [`RECORD_NOT_ALLOWED`] a byte
+/// offset in the records; for [`OUTPUT_TOO_SHORT`] the number of bytes needed.
 #[derive(Clone, Copy, Debug, PartialEq, Eq)]
 pub struct Refusal {
     pub number: u8,

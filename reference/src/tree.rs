@@ -19,6 +19,13 @@ impl RegisterType {
         }
     }
 
+    pub fn to_byte(self) -> u8 {
+        match self {
+            RegisterType::Scom => 1,
+            RegisterType::IndirectScom => 2,
+        }
+    }
+
     pub fn address_size(self) -> usize {
         match self {
             RegisterType::Scom => 4,

@@ -11,7 +11,9 @@ use crate::large::{self, Order};
 use crate::layout::{self, Limits};
 use crate::readings::{READ, UNREAD};
 use crate::refusal::{self, Refusal};
-use crate::{address, bits_above_silent, cases, check, isolate, isolate_board};
+use crate::{
+    address, bits_above_silent, cases, check, isolate, isolate_board, read_records, write_records,
+};
 
 pub const KEYWORD: [u8; 8] = *b"LUTEVECT";
 /// Keyword, place of the first case (4), number of cases (4).
@@ -23,7 +25,7 @@ pub const CASE_BYTES: usize = 56;
 pub const EXPECTED: usize = 8;
 
 // What a reader may count on.
-pub const MOST_BYTES: usize = 1_500_000;
+pub const MOST_BYTES: usize = 1_700_000;
 pub const MOST_WORDS: usize = 1_100;
 /// Of one list.
 pub const MOST_LENGTHS: usize = 40;
@@ -35,6 +37,10 @@ pub enum Kind {
     Address = 2,
     Isolation = 3,
     Board = 4,
+    /// Of a file from records.
+    Write = 5,
+    /// Of the records of a file.
+    Read = 6,
 }
 
 /// One call and its answer, as it stands in the file of vectors.
@@ -45,17 +51,18 @@ pub struct Vector<'a> {
     pub selector: u8,
     /// The byte that the list is full of when it is lent.
     pub fill: u8,
-    /// Those of a board end to end.
+    /// Those of a board end to end; the records of a call that writes them.
     pub file: &'a [u8],
     /// Of isolation and of a board; the one word of an address query is the
-    /// register ID.
+    /// register ID, and that of a call that writes records the model/level.
     pub words: Vec<u64>,
     /// Of a board's files, words and read bytes.
     pub lengths: [Vec<u64>; 3],
     pub read: &'a [u8],
     pub list_bytes: usize,
     pub expected: [u32; EXPECTED],
-    /// The records: what the list begins with after the call.
+    /// The records: what the list begins with after the call. Of calls of records
+    /// what the output begins with.
     pub records: &'a [u8],
 }
 
@@ -127,6 +134,15 @@ pub fn expected_of_board(answer: Result<(usize, usize), BoardRefusal>) -> [u32; 
 /// lengths.
 pub const BOARD_SLOT: usize = 4;
 
+/// The answer of a call of records as the vectors have it, without the place of
+/// the bytes that are expected.
+pub fn expected_of_records(answer: Result<usize, Refusal>) -> [u32; EXPECTED] {
+    expected_of_pair(answer.map(|bytes| (bytes, 0)))
+}
+
+/// Where such a case has the place of the bytes that are expected.
+const EXPECTED_AT: usize = 3;
+
 fn expected_of_refusal(refusal: Refusal) -> [u32; EXPECTED] {
     [
         u32::from(refusal.number),
@@ -187,6 +203,8 @@ impl<'a> Reader<'a> {
             2 => Kind::Address,
             3 => Kind::Isolation,
             4 => Kind::Board,
+            5 => Kind::Write,
+            6 => Kind::Read,
             _ => return None,
         };
         let selector = self.number(1)? as u8;
@@ -216,6 +234,11 @@ impl<'a> Reader<'a> {
         let read = self.take(read)?;
         let records = match kind {
             Kind::Isolation | Kind::Board => self.take(expected[2] as usize * RECORD_BYTES)?,
+            Kind::Write | Kind::Read => {
+                let place = std::mem::take(&mut expected[EXPECTED_AT]) as usize;
+                let end = place.checked_add(expected[2] as usize)?;
+                self.bytes.get(place..end)?
+            }
             _ => &[],
         };
         Some(Vector {
@@ -350,6 +373,19 @@ const MOST_OF_FILES: usize = 1_200;
 const MOST_OF_A_CASE: usize = 900;
 /// The most bytes of a file with too many instances that comes by chance.
 const MOST_OF_TOO_MANY: usize = 24_000;
+/// The most bytes of the records of a case: of a hand-made one, of one that has one
+/// element too many, of one that has one node instance too many, and of a seeded one.
+const MOST_OF_A_LIST: usize = 1_000;
+const MOST_OF_TOO_MANY_RECORDS: usize = 9_000;
+const MOST_OF_TOO_MANY_NODES: usize = 50_000;
+const MOST_OF_A_SEEDED_LIST: usize = 480;
+/// One in so many of the hand-made calls that write records is taken of those that
+/// are refused by 40 and of those that the checker refuses. They come in pairs, with
+/// room and without.
+const NOT_ALLOWED_ONE_IN: usize = 29;
+const REFUSED_BY_THE_CHECKER_ONE_IN: usize = 5;
+/// Files of so many bytes are written from their records and read.
+const LENGTHS_OF_FILES: [usize; 5] = [255, 256, 257, 4_096, 4_097];
 /// The files of all cases have so many bytes more than one may have.
 const LONGER_THAN_A_FILE: usize = 4_000;
 
@@ -420,6 +456,176 @@ impl Writer {
             expected,
             records: list,
         });
+    }
+
+    /// A call that writes or reads records, which stand among the files as what is
+    /// expected does.
+    fn store_call_of_records(
+        &mut self,
+        kind: Kind,
+        lent: &[u8],
+        words: Vec<u64>,
+        list_bytes: usize,
+        call: impl FnOnce(&mut [u8]) -> Result<usize, Refusal>,
+    ) {
+        let fill = self.random.byte();
+        let mut out = vec![fill; list_bytes];
+        let mut expected = expected_of_records(call(&mut out));
+        if expected[0] == 0 {
+            let (place, _) = self.place(&out[..expected[2] as usize]);
+            expected[EXPECTED_AT] = place as u32;
+        }
+        let file = self.place(lent);
+        self.drafts.push(Draft {
+            kind,
+            selector: 0,
+            fill,
+            file,
+            words,
+            lengths: NO_LENGTHS,
+            read: Vec::new(),
+            list_bytes,
+            expected,
+            records: Vec::new(),
+        });
+    }
+
+    fn store_writing(&mut self, model: u32, records: &[u8], room: usize) {
+        let words = vec![u64::from(model)];
+        self.store_call_of_records(Kind::Write, records, words, room, |out| {
+            write_records(model, records, out)
+        });
+    }
+
+    fn store_reading(&mut self, file: &[u8], room: usize) {
+        self.store_call_of_records(Kind::Read, file, Vec::new(), room, |out| {
+            read_records(file, out)
+        });
+    }
+
+    /// Calls of records: some of the hand-made ones, files of some lengths, and seeded
+    /// ones of every outcome.
+    fn calls_of_records(&mut self) {
+        self.hand_made_writings();
+        self.hand_made_readings();
+        self.files_of_lengths();
+        self.seeded_writings();
+        self.seeded_readings();
+        self.readings_of_large_files();
+    }
+
+    fn hand_made_writings(&mut self) {
+        for (index, case) in cases::writings().into_iter().enumerate() {
+            let is_one_too_many = case.name.starts_with("256-")
+                && !case.name.contains("-of-the-third")
+                && !case.name.contains("-and-more");
+            let number = case.answer.map_or_else(|refusal| refusal.number, |_| 0);
+            let (one_in, most) = match number {
+                0 | refusal::OUTPUT_TOO_SHORT => (1, MOST_OF_A_LIST),
+                refusal::TOO_MANY_INSTANCES => (1, MOST_OF_TOO_MANY_NODES),
+                refusal::RECORD_NOT_ALLOWED if is_one_too_many => (1, MOST_OF_TOO_MANY_RECORDS),
+                refusal::RECORD_NOT_ALLOWED => (NOT_ALLOWED_ONE_IN, MOST_OF_A_LIST),
+                _ => (REFUSED_BY_THE_CHECKER_ONE_IN, MOST_OF_A_LIST),
+            };
+            if index % one_in == 0 && case.records.len() <= most {
+                self.store_writing(case.model, &case.records, case.room);
+            }
+        }
+    }
+
+    fn hand_made_readings(&mut self) {
+        for case in cases::readings() {
+            if case.file.len() <= MOST_OF_A_LIST {
+                self.store_reading(&case.file, case.room);
+            }
+        }
+    }
+
+    /// In just enough room and in a byte less.
+    fn files_of_lengths(&mut self) {
+        for length in LENGTHS_OF_FILES {
+            let model = self.random.next() as u32;
+            let records = records_of_length(length);
+            let mut file = vec![0; length];
+            let written = write_records(model, &records, &mut file);
+            assert_eq!(written, Ok(length), "the file has its length");
+            for less in [0, 1] {
+                self.store_writing(model, &records, length - less);
+                self.store_reading(&file, records.len() - less);
+            }
+        }
+    }
+
+    fn seeded_writings(&mut self) {
+        for number in generate::WRITING_NUMBERS.into_iter().chain([0]) {
+            let count = match number {
+                // Those would be long.
+                refusal::FILE_TOO_LONG | refusal::TOO_MANY_INSTANCES => 0,
+                refusal::RECORD_NOT_ALLOWED => 40,
+                0 | refusal::OUTPUT_TOO_SHORT => 10,
+                _ => 5,
+            };
+            for _ in 0..count {
+                let writing = self.met_writing(number);
+                self.store_writing(writing.model, &writing.records, writing.room);
+            }
+        }
+    }
+
+    /// Two of each of the checker's refusals but 1 and 8, and some that it accepts.
+    fn seeded_readings(&mut self) {
+        let refused = (2..=refusal::CYCLE)
+            .filter(|&number| number != refusal::TOO_MANY_INSTANCES)
+            .flat_map(|number| [number; 2]);
+        for number in refused.chain([0; 12]) {
+            let (file, room) = self.met_reading(number);
+            self.store_reading(&file, room);
+        }
+    }
+
+    /// Files at the limits, whose records have too little room, and with one instance
+    /// too many. They are those of other cases.
+    fn readings_of_large_files(&mut self) {
+        for file in [
+            large::register_instances(8_192, 255),
+            large::short_node_instances(1_024, 255),
+            large::captures(Limits::PROGRAM, 0),
+            large::deep_expressions(Limits::PROGRAM),
+            large::full_counts(),
+            large::register_instances(8_193, 255),
+            large::short_node_instances(1_025, 255),
+            large::node_instances(1_025),
+        ] {
+            let room = self.random.below(MOST_OF_A_LIST);
+            self.store_reading(&file, room);
+        }
+    }
+
+    /// A call that writes records and that the number is the outcome of.
+    fn met_writing(&mut self, number: u8) -> generate::Writing {
+        loop {
+            let writing = generate::aimed_writing(&mut self.random, number);
+            let mut out = vec![0; writing.room];
+            let answer = write_records(writing.model, &writing.records, &mut out);
+            let is_met = number == answer.map_or_else(|refusal| refusal.number, |_| 0);
+            let is_small = writing.records.len() <= MOST_OF_A_SEEDED_LIST;
+            if is_met && is_small && writing.room <= MOST_LIST_BYTES {
+                return writing;
+            }
+        }
+    }
+
+    /// A small file that the checker refuses by the number or, if it is 0, accepts;
+    /// and room for its records.
+    fn met_reading(&mut self, number: u8) -> (Vec<u8>, usize) {
+        loop {
+            let file = self.met_case(number).file;
+            let is_met = number == check(&file).map_or_else(|refusal| refusal.number, |_| 0);
+            let room = generate::reading_room(&mut self.random, &file);
+            if is_met && file.len() <= MOST_OF_A_SEEDED_LIST && room <= 2 * MOST_OF_A_LIST {
+                return (file, room);
+            }
+        }
     }
 
     fn store_board(&mut self, board: &Board) {
@@ -944,6 +1150,9 @@ impl Writer {
                     records: Vec::new(),
                 });
             }
+            if round % 20 == 0 {
+                self.store_reading(&case.file, case.room);
+            }
         }
     }
 
@@ -977,6 +1186,41 @@ fn is_small(board: &Board) -> bool {
         && board.room <= MOST_LIST_BYTES
 }
 
+/// Records whose file has so many bytes: those of B1 with more registers, which have
+/// addresses of 8 bytes, and with captures.
+fn records_of_length(length: usize) -> Vec<u8> {
+    const MOST_INSTANCES: usize = 255;
+    let mut b1 = vec![0; MOST_OF_A_LIST];
+    let size = read_records(&large::B1, &mut b1).expect("B1 is accepted");
+    // In front of the captures stand the register and its instance, the node and its
+    // instance.
+    let (front, back) = b1[..size].split_at(4 * RECORD_BYTES);
+    let (register, node) = front.split_at(2 * RECORD_BYTES);
+    let mut records = register.to_vec();
+    let mut left = length - large::B1.len();
+    for id in 2.. {
+        // 6 bytes for a register, 9 for each instance; the captures have 4 bytes each.
+        let most = MOST_INSTANCES.min((left - 6) / 9);
+        let is_last = most < MOST_INSTANCES;
+        let fits = |&instances: &usize| !is_last || (left - 6 - 9 * instances) % 4 == 0;
+        let instances = (1..=most).rev().find(fits).expect("there is such a number");
+        left -= 6 + 9 * instances;
+        records.extend([1, 2, 0x80, 0, 0, 0, 0, id, 0, 0, 0, 0, 0, 0, 0, 0]);
+        for number in 0..instances as u8 {
+            records.extend([2, 0, 0, number, 0, 0, 0, 0, id, 9, 8, 7, 6, 5, 4, number]);
+        }
+        if is_last {
+            break;
+        }
+    }
+    records.extend(node);
+    for number in 0..(left / 4) as u8 {
+        records.extend([5, 0, 0, number, 0, 0, 0, 2, 0, 0, 0, 0, 0, 0, 0, 0]);
+    }
+    records.extend(back);
+    records
+}
+
 /// The vectors of a seed: always the same file.
 pub fn build(seed: u64) -> Vec<u8> {
     let mut writer = Writer {
@@ -1008,6 +1252,7 @@ pub fn build(seed: u64) -> Vec<u8> {
     writer.hand_made_boards();
     writer.refused_in_each_slot();
     writer.boards_of_too_many();
+    writer.calls_of_records();
     writer.long_file();
     writer.windows();
     writer.windows_of_boards();

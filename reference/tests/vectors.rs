@@ -4,10 +4,11 @@
 use std::collections::BTreeMap;
 
 use reference::vectors::{
-    self, address_of_any, expected_of_board, expected_of_check, expected_of_pair, is_capture, Kind,
-    Vector, EXPECTED, MOST_BYTES, MOST_LENGTHS, MOST_LIST_BYTES, MOST_WORDS,
+    self, address_of_any, expected_of_board, expected_of_check, expected_of_pair,
+    expected_of_records, is_capture, Kind, Vector, EXPECTED, MOST_BYTES, MOST_LENGTHS,
+    MOST_LIST_BYTES, MOST_WORDS,
 };
-use reference::{check, fast, isolate, isolate_board, Refusal};
+use reference::{check, fast, isolate, isolate_board, read_records, write_records, Refusal};
 
 type Isolate = fn(&[u8], u8, &[u64], &[u8], &mut [u8]) -> Result<(usize, usize), Refusal>;
 
@@ -22,6 +23,15 @@ fn isolated(vector: &Vector, isolate: Isolate) -> ([u32; EXPECTED], Vec<u8>) {
         &mut list,
     );
     (expected_of_pair(answer), list)
+}
+
+/// A call of records answers as expected, and so is the output after it.
+fn assert_records(vector: &Vector, call: impl FnOnce(&mut [u8]) -> Result<usize, Refusal>) {
+    let mut expected = vector.records.to_vec();
+    expected.resize(vector.list_bytes, vector.fill);
+    let mut out = vec![vector.fill; vector.list_bytes];
+    assert_eq!(expected_of_records(call(&mut out)), vector.expected);
+    assert_eq!(out, expected);
 }
 
 fn assert_agrees(vector: &Vector) {
@@ -40,6 +50,17 @@ fn assert_agrees(vector: &Vector) {
             let expected = (vector.expected, list);
             assert_eq!(isolated(vector, isolate), expected);
             assert_eq!(isolated(vector, fast::isolate), expected);
+        }
+        Kind::Write => {
+            let model = vector.words[0] as u32;
+            for write in [write_records, fast::write_records] {
+                assert_records(vector, |out| write(model, vector.file, out));
+            }
+        }
+        Kind::Read => {
+            for read in [read_records, fast::read_records] {
+                assert_records(vector, |out| read(vector.file, out));
+            }
         }
         Kind::Board => {
             let board = vector.board();
@@ -61,10 +82,12 @@ fn vectors_agree_with_the_reference() {
         let bytes = vectors::build(seed);
         assert!(bytes.len() <= MOST_BYTES, "{} bytes", bytes.len());
         let vectors = vectors::read(&bytes).unwrap();
-        assert!(vectors.len() >= 2_700, "{}", vectors.len());
+        assert!(vectors.len() >= 3_100, "{}", vectors.len());
 
         let mut outcomes = [0; 20];
         let mut boards = [0; 21];
+        let mut writings = [0; 42];
+        let mut readings = [0; 42];
         let mut slots = [0; 16];
         let mut unreadable_captures = BTreeMap::new();
         let mut above_silent = BTreeMap::new();
@@ -77,6 +100,8 @@ fn vectors_agree_with_the_reference() {
             assert!(vector.list_bytes <= MOST_LIST_BYTES);
             match vector.kind {
                 Kind::Isolation => outcomes[vector.expected[0] as usize] += 1,
+                Kind::Write => writings[vector.expected[0] as usize] += 1,
+                Kind::Read => readings[vector.expected[0] as usize] += 1,
                 Kind::Board => {
                     let [number, _, _, _, slot, ..] = vector.expected;
                     boards[number as usize] += 1;
@@ -121,6 +146,22 @@ fn vectors_agree_with_the_reference() {
         assert!(above_silent[&0] >= 100, "{above_silent:?}");
         assert!(above_silent[&19] >= 30, "{above_silent:?}");
         assert!(largest > 1_048_576);
+        for number in [5, 6, 7, 9, 10, 12, 13, 14, 41] {
+            assert!(writings[number] >= 5, "{writings:?}");
+        }
+        assert!(writings[8] > 0, "{writings:?}");
+        assert!(writings[0] >= 30 && writings[40] >= 120, "{writings:?}");
+        for number in (1..=14).chain([41]) {
+            assert!(readings[number] >= 3, "{readings:?}");
+        }
+        assert!(readings[0] >= 25, "{readings:?}");
+        for length in [255, 256, 257, 4_096, 4_097] {
+            let is_written = |vector: &Vector| {
+                let [number, _, written, ..] = vector.expected;
+                vector.kind == Kind::Write && number == 0 && written == length
+            };
+            assert!(vectors.iter().any(is_written), "{length}");
+        }
     }
 }
 

@@ -1,4 +1,4 @@
-// The calls of the library for C and Rust. Each takes any input. The checker, the address query, isolation and the board call return the number of their refusal, 0 where there is none,
+// The calls of the library for C and Rust. Each takes any input. All but the report return the number of their refusal, 0 where there is none,
 // and put their whole answer to a lent list of numbers; a list that is too short for it keeps what it has.
 use board::board;
 use format::Address;
@@ -9,6 +9,7 @@ use isolation::isolate;
 use reader::address::address;
 use reader::check;
 use report::report;
+use writer::Output;
 ghost use Prim.Native.Nat.{_≤_};
 ghost use mathlib.Core.List.{[], _∷_};
 ghost use mathlib.Core.Path.{_≡_};
@@ -16,9 +17,22 @@ ghost use Rattle.limits.specs.Limits.{libraryLimits};
 ghost use Rattle.format.specs.Verdict.{check, address};
 ghost use Rattle.isolation.specs.Outcome.{isolate};
 ghost use Rattle.board.specs.Board.{boardOf, board};
+ghost use Rattle.writer.specs.Writing.{write, read};
 ghost use Rattle.report.specs.Text.{Put};
 ghost use Rattle.report.specs.Report.{report};
-ghost use Rattle.abi.specs.Values.{answered, checkList, addressList, isolateList, boardList};
+ghost use Rattle.abi.specs.Values.{answered, checkList, addressList, isolateList, boardList, outputList};
+
+// Three numbers at the front of a list that has room for them.
+fn put_three(out: &mut [u64], a: u64, b: u64, c: u64)
+    ensures { λ r. ⌜ now (out .exit) ≡ answered (a ∷ b ∷ c ∷ []) (now (out .entry)) ⌝ }
+{
+    if out.len() < 3 {
+        return;
+    }
+    out[0] = a;
+    out[1] = b;
+    out[2] = c;
+}
 
 // Four numbers at the front of a list that has room for them.
 fn put_four(out: &mut [u64], a: u64, b: u64, c: u64, d: u64)
@@ -188,6 +202,55 @@ pub extern "C" fn lutemarble_board(
             let kind = r.kind;
             let n = number(kind) as u64;
             put_five(out, n, r.place as u64, 0, 0, slot);
+            n
+        }
+    }
+}
+
+// A chip data file from a model/level and records: number, place and the bytes written. The file goes to the front of the lent one; a refusal leaves it as it is.
+#[no_mangle]
+pub extern "C" fn lutemarble_write(
+    model: u32,
+    records: &[u8],
+    file: &mut [u8],
+    out: &mut [u64],
+) -> u64
+    ensures number { λ r. ⌜ r ≡ write libraryLimits model (now (records .entry)) (now (file .entry)) .number ⌝ }
+    ensures file { λ r. ⌜ now (file .exit) ≡ write libraryLimits model (now (records .entry)) (now (file .entry)) .output ⌝ }
+    ensures answer { λ r. ⌜ now (out .exit) ≡ answered (outputList (write libraryLimits model (now (records .entry)) (now (file .entry)))) (now (out .entry)) ⌝ }
+{
+    let w = writer::write(model, records, file);
+    match w {
+        Output::Written(n) => {
+            put_three(out, 0, 0, n as u64);
+            0
+        }
+        Output::Refused(r) => {
+            let kind = r.kind;
+            let n = number(kind) as u64;
+            put_three(out, n, r.place as u64, 0);
+            n
+        }
+    }
+}
+
+// The records of a chip data file: number, place and the bytes written. The records go to the front of the lent ones; a refusal leaves these as they are.
+#[no_mangle]
+pub extern "C" fn lutemarble_read(file: &[u8], records: &mut [u8], out: &mut [u64]) -> u64
+    ensures number { λ r. ⌜ r ≡ read libraryLimits (now (file .entry)) (now (records .entry)) .number ⌝ }
+    ensures records { λ r. ⌜ now (records .exit) ≡ read libraryLimits (now (file .entry)) (now (records .entry)) .output ⌝ }
+    ensures answer { λ r. ⌜ now (out .exit) ≡ answered (outputList (read libraryLimits (now (file .entry)) (now (records .entry)))) (now (out .entry)) ⌝ }
+{
+    let w = writer::read(file, records);
+    match w {
+        Output::Written(n) => {
+            put_three(out, 0, 0, n as u64);
+            0
+        }
+        Output::Refused(r) => {
+            let kind = r.kind;
+            let n = number(kind) as u64;
+            put_three(out, n, r.place as u64, 0);
             n
         }
     }

@@ -7,7 +7,7 @@ use lib.Dec.{leb, lit<}
 use borrow.Author.Tests.{leb-true}
 use Rattle.limits.specs.Limits.{Limits}
 use Rattle.numbers.proofs.Bools.{and-left, and-right}
-use Rattle.format.specs.declared.Kind.the-variants.{FileTooLong, FieldCut, WrongKeyword, WrongVersion, ZeroCount, UnknownValue, Duplicate, TooManyInstances, BadExpression, BitTooHigh, BytesAfterEnd, NameAbsent, RegisterUnfit, ChildCycle, BadAttentionType, NoRoot, ReadingsUnfit, RegisterUnread, NoRoom, BoardUnfit, TableTooShort}
+use Rattle.format.specs.declared.Kind.the-variants.{FileTooLong, FieldCut, WrongKeyword, WrongVersion, ZeroCount, UnknownValue, Duplicate, TooManyInstances, BadExpression, BitTooHigh, BytesAfterEnd, NameAbsent, RegisterUnfit, ChildCycle, BadAttentionType, NoRoot, ReadingsUnfit, RegisterUnread, NoRoom, BoardUnfit, RecordNotAllowed, OutputTooShort, TableTooShort}
 use Rattle.format.specs.declared.Kind.{Kind}
 use Rattle.format.specs.Parsed.{Parsed, done, refused, andThen, making, require, requiring, rowAt}
 use Rattle.format.specs.Fields.{fieldAt, keywordAt, countAt, typeAt, flagsAt, attentionAt}
@@ -47,6 +47,8 @@ kind-some ReadingsUnfit = lit< tt
 kind-some RegisterUnread = lit< tt
 kind-some NoRoom = lit< tt
 kind-some BoardUnfit = lit< tt
+kind-some RecordNotAllowed = lit< tt
+kind-some OutputTooShort = lit< tt
 kind-some TableTooShort = lit< tt
 
 abbrev InTable : ℕ → Type 0

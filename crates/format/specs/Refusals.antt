@@ -1,13 +1,13 @@
 -- Document 01, "Numbers the operator sees": the number of each kind, and the values of each answer.
 use Prim.Native.Nat.{ℕ}
 use Rattle.format.specs.declared.Kind.{Kind}
-use Rattle.format.specs.declared.Kind.the-variants.{FileTooLong, FieldCut, WrongKeyword, WrongVersion, ZeroCount, UnknownValue, Duplicate, TooManyInstances, BadExpression, BitTooHigh, BytesAfterEnd, NameAbsent, RegisterUnfit, ChildCycle, BadAttentionType, NoRoot, ReadingsUnfit, RegisterUnread, NoRoom, BoardUnfit, TableTooShort}
+use Rattle.format.specs.declared.Kind.the-variants.{FileTooLong, FieldCut, WrongKeyword, WrongVersion, ZeroCount, UnknownValue, Duplicate, TooManyInstances, BadExpression, BitTooHigh, BytesAfterEnd, NameAbsent, RegisterUnfit, ChildCycle, BadAttentionType, NoRoot, ReadingsUnfit, RegisterUnread, NoRoom, BoardUnfit, RecordNotAllowed, OutputTooShort, TableTooShort}
 use Rattle.format.specs.declared.Checked
 use Rattle.format.specs.declared.Checked.{Checked}
 use Rattle.format.specs.declared.Address
 use Rattle.format.specs.declared.Address.{Address}
 
--- The table's first column, with 20 of document 02 (vi); and 43, which is ours: a table that a caller lent for a file is too short for it.
+-- The table's first column, with 20 of document 02 (vi), 40 and 41 of (ii); and 43, which is ours: a table that a caller lent for a file is too short for it.
 abbrev pub numberOf : Kind → ℕ
 numberOf FileTooLong = 1
 numberOf FieldCut = 2
@@ -29,6 +29,8 @@ numberOf ReadingsUnfit = 17
 numberOf RegisterUnread = 18
 numberOf NoRoom = 19
 numberOf BoardUnfit = 20
+numberOf RecordNotAllowed = 40
+numberOf OutputTooShort = 41
 numberOf TableTooShort = 43
 
 -- The checker's answer in the paper's numbers: number 0 is acceptance, with the summary; a refusal has its number and place, and zero of everything else.

@@ -33,6 +33,8 @@ pub enum Kind {
     RegisterUnread,
     NoRoom,
     BoardUnfit,
+    RecordNotAllowed,
+    OutputTooShort,
     TableTooShort,
 }
 
@@ -89,6 +91,8 @@ pub fn number(k: Kind) -> u8
         Kind::RegisterUnread => 18,
         Kind::NoRoom => 19,
         Kind::BoardUnfit => 20,
+        Kind::RecordNotAllowed => 40,
+        Kind::OutputTooShort => 41,
         Kind::TableTooShort => 43,
     }
 }

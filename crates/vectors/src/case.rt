@@ -13,6 +13,12 @@ use crate::lent::fill;
 use crate::lent::fill_words;
 use crate::lent::some_words;
 use crate::lines::case_line;
+use crate::outputs::WRITTEN;
+use crate::outputs::WRITTEN_AT;
+use crate::outputs::expects_part;
+use crate::outputs::lends_output;
+use crate::outputs::read_met;
+use crate::outputs::write_met;
 use crate::parts::byte;
 use crate::parts::eight;
 use crate::parts::four;
@@ -45,6 +51,10 @@ const ADDRESS: u8 = 2;
 const ISOLATION: u8 = 3;
 
 const BOARD: u8 = 4;
+
+const WRITE: u8 = 5;
+
+const READ: u8 = 6;
 
 // The checker's answer as a case has it.
 fn checked(file: &[u8]) -> [u64; 8] {
@@ -169,8 +179,8 @@ fn isolation_met(head: &[u8], body: &[u8], file: &[u8], tally: &mut [u64]) -> bo
     )
 }
 
-// Whether a case's call answers as it expects.
-fn met(head: &[u8], body: &[u8], file: &[u8], tally: &mut [u64]) -> bool {
+// Whether a case's call answers as it expects. `expected` is what a case of records is to write.
+fn met(head: &[u8], body: &[u8], file: &[u8], expected: &[u8], tally: &mut [u64]) -> bool {
     let kind = byte(head, 0);
     if kind == CHECK {
         return check_met(head, file, tally);
@@ -180,6 +190,12 @@ fn met(head: &[u8], body: &[u8], file: &[u8], tally: &mut [u64]) -> bool {
     }
     if kind == BOARD {
         return board_met(head, body, file, tally);
+    }
+    if kind == WRITE {
+        return write_met(head, body, file, expected, tally);
+    }
+    if kind == READ {
+        return read_met(head, file, expected, tally);
     }
     isolation_met(head, body, file, tally)
 }
@@ -197,7 +213,7 @@ fn lends_little(head: &[u8]) -> bool {
         && four(head, 32) <= four(head, 20) / RECORD
 }
 
-// Whether a head has one of the four kinds, and the fields that its kind has not are 0.
+// Whether a head has one of the six kinds, and the fields that its kind has not are 0.
 fn formed(head: &[u8]) -> bool {
     if byte(head, 3) != 0 {
         return false;
@@ -212,12 +228,44 @@ fn formed(head: &[u8]) -> bool {
     if kind == BOARD {
         return lends_little(head) && has_few_lengths(head);
     }
+    if kind == WRITE {
+        return four(head, 12) == 1 && lends_output(head);
+    }
+    if kind == READ {
+        return four(head, 12) == 0 && lends_output(head);
+    }
     kind == ISOLATION && lends_little(head)
 }
 
+// Whether a case writes or reads records.
+fn is_of_records(head: &[u8]) -> bool {
+    let kind = byte(head, 0);
+    kind == WRITE || kind == READ
+}
+
+// How many bytes among the files a case expects to be written.
+fn output_size(head: &[u8]) -> usize {
+    if is_of_records(head) {
+        four(head, WRITTEN)
+    } else {
+        0
+    }
+}
+
+// Whether the file of a case, or what stands for it, is among the files, and what a case of records is to write.
+fn is_among(head: &[u8], files: &[u8]) -> bool {
+    let place = four(head, 4);
+    if place < START || !holds(files, place, four(head, 8)) {
+        return false;
+    }
+    !is_of_records(head) || expects_part(head, files, START)
+}
+
 // Compares a case, and names it where it differs.
-fn compare(head: &[u8], body: &[u8], file: &[u8], number: usize, tally: &mut [u64]) {
-    if met(head, body, file, tally) {
+fn compare(head: &[u8], body: &[u8], files: &[u8], number: usize, tally: &mut [u64]) {
+    let file = part(files, four(head, 4), four(head, 8));
+    let expected = part(files, four(head, WRITTEN_AT), output_size(head));
+    if met(head, body, file, expected, tally) {
         return;
     }
     case_line(number, b" differs");
@@ -230,7 +278,7 @@ fn no_case(number: usize, why: &[u8]) -> usize {
     0
 }
 
-// The case at a place: it is compared, and the place after it is answered; 0 where no case stands there. Its chip data file, of a board all its files, is a part of `files`, which is the file of vectors up to the first case.
+// The case at a place: it is compared, and the place after it is answered; 0 where no case stands there. Its chip data file, of a board all its files, the records that it lends, and what a case of records is to write are parts of `files`, which is the file of vectors up to the first case.
 pub fn case_met(data: &[u8], files: &[u8], at: usize, number: usize, tally: &mut [u64]) -> usize {
     if data.len() < at {
         return no_case(number, b" is malformed: not wholly there");
@@ -242,22 +290,17 @@ pub fn case_met(data: &[u8], files: &[u8], at: usize, number: usize, tally: &mut
     if !formed(head) {
         return no_case(number, b" is malformed: a field has no such value");
     }
-    let place = four(head, 4);
-    let length = four(head, 8);
-    if place < START || !holds(files, place, length) {
-        return no_case(number, b" is malformed: its file is not among the files");
+    if !is_among(head, files) {
+        return no_case(
+            number,
+            b" is malformed: its file, or what it is to write, is not among the files",
+        );
     }
     let body = at + HEAD;
     let size = body_size(head);
     if data.len() - body < size {
         return no_case(number, b" is malformed: not wholly there");
     }
-    compare(
-        head,
-        part(data, body, size),
-        part(files, place, length),
-        number,
-        tally,
-    );
+    compare(head, part(data, body, size), files, number, tally);
     body + size
 }

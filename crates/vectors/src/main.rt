@@ -1,4 +1,4 @@
-// Walks a file of vectors, `vectors.bin`, which the reference makes: calls of the checker, the address query, isolation and the board call, each with the answer that is expected. It calls the library on each, compares every value and every byte of the list, and prints how many cases there were of each outcome and how many differ.
+// Walks a file of vectors, `vectors.bin`, which the reference makes: calls of the checker, the address query, isolation, the board call and the two calls of records, each with the answer that is expected. It calls the library on each, compares every value and every byte of the list or output, and prints how many cases there were of each outcome and how many differ.
 use crate::case::case_met;
 use crate::lines::malformed;
 use crate::parts::four;
@@ -14,11 +14,12 @@ mod boards;
 mod case;
 mod lent;
 mod lines;
+mod outputs;
 mod parts;
 mod tally;
 
 // A file of vectors has at most so many bytes.
-const MOST_BYTES: usize = 1_500_000;
+const MOST_BYTES: usize = 1_700_000;
 
 // Goes through the cases, and answers the place after the last; 0 where some bytes are no case.
 fn walked(data: &[u8], files: &[u8], cases: usize, tally: &mut [u64]) -> usize {
@@ -81,10 +82,10 @@ fn read_and_examine(fd: i32, data: &mut [u8]) {
 }
 
 // Room for one byte more than a file of vectors may have.
-fn room() -> [u8; 1_500_001]
-    ensures { λ r. ⌜ 1500001 ≡ length r ⌝ }
+fn room() -> [u8; 1_700_001]
+    ensures { λ r. ⌜ 1700001 ≡ length r ⌝ }
 {
-    [0; 1_500_001]
+    [0; 1_700_001]
 }
 
 fn main() {

@@ -1,4 +1,4 @@
-// How many cases there were of each outcome: a count for each number from 0, success, to 20, of each kind of case; and how many cases differ.
+// How many cases there were of each outcome: a count for each number from 0, success, to 20, of each kind of case, to 41 of those of records; and how many cases differ.
 use libc::STDOUT_FILENO;
 
 // Where the counts of each kind begin, where the number of cases that differ stands, and how many places there are.
@@ -10,9 +10,13 @@ pub const ISOLATIONS: usize = 42;
 
 pub const BOARDS: usize = 63;
 
-pub const DIFFERENCES: usize = 84;
+pub const WRITES: usize = 84;
 
-pub const PLACES: usize = 85;
+pub const READS: usize = 126;
+
+pub const DIFFERENCES: usize = 168;
+
+pub const PLACES: usize = 169;
 
 // One more of a number, among the counts from a place on.
 pub fn count(tally: &mut [u64], from: usize, number: u64) {
@@ -73,7 +77,9 @@ pub fn print_tally(tally: &[u64]) {
     print_kind(b"check", &tally[CHECKS..ADDRESSES]);
     print_kind(b"address", &tally[ADDRESSES..ISOLATIONS]);
     print_kind(b"isolation", &tally[ISOLATIONS..BOARDS]);
-    print_kind(b"board", &tally[BOARDS..DIFFERENCES]);
+    print_kind(b"board", &tally[BOARDS..WRITES]);
+    print_kind(b"write", &tally[WRITES..READS]);
+    print_kind(b"read", &tally[READS..DIFFERENCES]);
     io::write_all(STDOUT_FILENO, b"differences ");
     io::print_decimal(STDOUT_FILENO, tally[DIFFERENCES]);
     io::write_all(STDOUT_FILENO, b"\n");

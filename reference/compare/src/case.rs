@@ -1,15 +1,15 @@
-//! Cases for all five functions: seeded, and as text.
+//! Cases for all seven functions: seeded, and as text.
 
 use std::fmt::Write;
 use std::sync::OnceLock;
 
 use reference::board::Board;
-use reference::generate::{self, Random, Sizes, HIGHEST_NUMBER};
-use reference::{cases, hex, large, report, Accepted, Limits};
+use reference::generate::{self, Random, Sizes, Writing, HIGHEST_NUMBER, WRITING_NUMBERS};
+use reference::{cases, hex, large, refusal, report, Accepted, Limits};
 
 use crate::proved::TEXT_BYTES;
 
-/// All that the five functions are lent.
+/// All that the seven functions are lent.
 #[derive(Clone, Debug, PartialEq, Eq)]
 pub struct Case {
     /// File, attention type, readings and the length of the list.
@@ -24,6 +24,10 @@ pub struct Case {
     /// The length of the report's text.
     pub text: usize,
     pub board: Board,
+    /// Of the writer; the reader is lent the file of the isolation.
+    pub writing: Writing,
+    /// The length of the reader's output.
+    pub reading_room: usize,
 }
 
 impl Case {
@@ -56,6 +60,8 @@ impl Case {
         let whole = report(&isolation.file, isolation.attention_type, &readings_file);
         let text = text_length(random, whole.len());
         let board = board(random, &isolation);
+        let writing = writing(random, &isolation.file);
+        let reading_room = generate::reading_room(random, &isolation.file);
         Case {
             isolation,
             id,
@@ -64,6 +70,8 @@ impl Case {
             readings_file,
             text,
             board,
+            writing,
+            reading_room,
         }
     }
 
@@ -84,6 +92,7 @@ impl Case {
             ("board-files", &board.files),
             ("board-words", &bytes_of(&board.words)),
             ("board-read", &board.read),
+            ("records", &self.writing.records),
         ] {
             writeln!(text, "{name} {}", hex::encode(bytes)).expect("a String takes all text");
         }
@@ -107,6 +116,9 @@ impl Case {
             ("text", self.text as u64),
             ("board-type", u64::from(board.attention_type)),
             ("board-list", board.room as u64),
+            ("model", u64::from(self.writing.model)),
+            ("write-room", self.writing.room as u64),
+            ("read-room", self.reading_room as u64),
         ] {
             writeln!(text, "{name} {number}").expect("a String takes all text");
         }
@@ -131,6 +143,12 @@ impl Case {
             readings_file: Vec::new(),
             text: TEXT_BYTES,
             board: Board::new(0, 0),
+            writing: Writing {
+                model: 0,
+                records: Vec::new(),
+                room: 0,
+            },
+            reading_room: 0,
         };
         for line in text.lines().filter(|line| !line.trim().is_empty()) {
             case.set(line.trim()).ok_or(line)?;
@@ -154,6 +172,10 @@ impl Case {
             "board-read-lengths" => board.read_lengths = lengths(value)?,
             "board-type" => board.attention_type = value.parse().ok()?,
             "board-list" => board.room = value.parse().ok()?,
+            "records" => self.writing.records = hex::decode(value)?,
+            "model" => self.writing.model = value.parse().ok()?,
+            "write-room" => self.writing.room = value.parse().ok()?,
+            "read-room" => self.reading_room = value.parse().ok()?,
             "type" => isolation.attention_type = value.parse().ok()?,
             "list" => isolation.room = value.parse().ok()?,
             "id" => self.id = value.parse().ok()?,
@@ -188,6 +210,36 @@ fn board(random: &mut Random, case: &generate::Case) -> Board {
         return random.pick(boards).board.clone();
     }
     generate::board_around(random, case)
+}
+
+/// Records around the file, or aimed at an outcome, or seldom hand-made ones.
+/// Those that are too long or have too many instances are rare, since they are
+/// long.
+fn writing(random: &mut Random, file: &[u8]) -> Writing {
+    static WRITINGS: OnceLock<Vec<cases::Writing>> = OnceLock::new();
+    match random.below(24) {
+        0 => {
+            let case = random.pick(WRITINGS.get_or_init(cases::writings));
+            Writing {
+                model: case.model,
+                records: case.records.clone(),
+                room: case.room,
+            }
+        }
+        1..=8 => {
+            let number = *random.pick(&WRITING_NUMBERS);
+            let is_left_out = match number {
+                refusal::FILE_TOO_LONG => !random.one_in(12),
+                refusal::TOO_MANY_INSTANCES => !random.one_in(3),
+                _ => false,
+            };
+            match is_left_out {
+                true => generate::writing_around(random, file),
+                false => generate::aimed_writing(random, number),
+            }
+        }
+        _ => generate::writing_around(random, file),
+    }
 }
 
 /// A file of its own kind, with readings that fit it where it is accepted.
@@ -370,6 +422,10 @@ mod tests {
             "board-read-lengths 18446744073709551616",
             "board-type 256",
             "board-list",
+            "records 0",
+            "model 4294967296",
+            "write-room",
+            "read-room -1",
         ] {
             assert_eq!(Case::from_text(line), Err(line.to_string()));
         }

@@ -4,14 +4,20 @@
 use std::fmt;
 
 use reference::vectors::{
-    address_of_any, expected_of_board, expected_of_check, expected_of_pair, BOARD_SLOT,
+    address_of_any, expected_of_board, expected_of_check, expected_of_pair, expected_of_records,
+    BOARD_SLOT,
 };
-use reference::{bits_above_silent, board, check, isolate, isolate_board, refusal, report};
+use reference::{
+    bits_above_silent, board, check, isolate, isolate_board, read_records, refusal, report,
+    write_records,
+};
 
 use crate::case::Case;
-use crate::proved::{self, ADDRESS_PLACES, BOARD_PLACES, CHECK_PLACES, ISOLATE_PLACES};
+use crate::proved::{
+    self, ADDRESS_PLACES, BOARD_PLACES, CHECK_PLACES, ISOLATE_PLACES, RECORDS_PLACES,
+};
 
-/// The numbers of the five outcomes, 0 for success.
+/// The numbers of the seven outcomes, 0 for success.
 #[derive(Clone, Copy, Debug, PartialEq, Eq)]
 pub struct Outcomes {
     pub check: u8,
@@ -19,6 +25,8 @@ pub struct Outcomes {
     pub isolate: u8,
     pub report: u8,
     pub board: u8,
+    pub write: u8,
+    pub read: u8,
     /// The slot of a board that is refused for one.
     pub slot: Option<u8>,
     /// The text was too short for the report.
@@ -216,6 +224,8 @@ pub fn compare(case: &Case) -> Result<Outcomes, Difference> {
     let isolate = compare_isolate(case, &file)?;
     let (report, cut) = compare_report(case, &file)?;
     let (board, slot) = compare_board(case)?;
+    let write = compare_write(case)?;
+    let read = compare_read(case, &file)?;
     let isolation = &case.isolation;
     let bits_above_silent = bits_above_silent(
         &isolation.file,
@@ -229,6 +239,8 @@ pub fn compare(case: &Case) -> Result<Outcomes, Difference> {
         isolate,
         report,
         board,
+        write,
+        read,
         slot,
         cut,
         above_silent: bits_above_silent > 0,
@@ -331,6 +343,51 @@ fn compare_board(case: &Case) -> Result<(u8, Option<u8>), Difference> {
     Ok((number, is_for_a_slot.then_some(answer[BOARD_SLOT] as u8)))
 }
 
+fn compare_write(case: &Case) -> Result<u8, Difference> {
+    let writing = &case.writing;
+    let mut expected_file = Lent::patterned(writing.room);
+    let answer = expected_of_records(write_records(
+        writing.model,
+        &writing.records,
+        expected_file.part_mut(),
+    ));
+
+    let records = Lent::new(&writing.records);
+    for places in [case.places, 0] {
+        let mut file = Lent::patterned(writing.room);
+        let mut out = Out::new(places);
+        let returned = proved::write(writing.model, records.part(), file.part_mut(), out.part());
+        let expected = Out::expected(places, &answer[..RECORDS_PLACES]);
+        same_numbers("write", &out.places, &expected)?;
+        let first = out.first(RECORDS_PLACES);
+        same_returned("what write returns", returned, answer[0], first)?;
+        // The file is written whatever places `out` has.
+        same_bytes("the file after write", &file, &expected_file)?;
+    }
+    Ok(answer[0] as u8)
+}
+
+fn compare_read(case: &Case, file: &Lent) -> Result<u8, Difference> {
+    let mut expected_records = Lent::patterned(case.reading_room);
+    let answer = expected_of_records(read_records(
+        &case.isolation.file,
+        expected_records.part_mut(),
+    ));
+
+    for places in [case.places, 0] {
+        let mut records = Lent::patterned(case.reading_room);
+        let mut out = Out::new(places);
+        let returned = proved::read(file.part(), records.part_mut(), out.part());
+        let expected = Out::expected(places, &answer[..RECORDS_PLACES]);
+        same_numbers("read", &out.places, &expected)?;
+        let first = out.first(RECORDS_PLACES);
+        same_returned("what read returns", returned, answer[0], first)?;
+        // The records are written whatever places `out` has.
+        same_bytes("the records after read", &records, &expected_records)?;
+    }
+    Ok(answer[0] as u8)
+}
+
 /// The number of the outcome, and whether the text was too short for it.
 fn compare_report(case: &Case, file: &Lent) -> Result<(u8, bool), Difference> {
     let attention_type = case.isolation.attention_type;
@@ -363,7 +420,7 @@ fn compare_report(case: &Case, file: &Lent) -> Result<(u8, bool), Difference> {
 #[cfg(test)]
 mod tests {
     use super::*;
-    use reference::generate::HIGHEST_NUMBER;
+    use reference::generate::{HIGHEST_NUMBER, WRITING_NUMBERS};
 
     #[test]
     fn the_proved_library_agrees() {
@@ -372,6 +429,8 @@ mod tests {
         let mut above_silent = 0;
         let mut boards = [0; refusal::BOARD_DOES_NOT_ADD_UP as usize + 1];
         let mut slots = [0; board::MOST_SLOTS];
+        let mut written = [0; refusal::OUTPUT_TOO_SHORT as usize + 1];
+        let mut read = written;
         let mut too_large_for_the_report = [0; HIGHEST_NUMBER as usize + 1];
         for number in 0..2_000 {
             let case = Case::seeded(1, number);
@@ -379,6 +438,8 @@ mod tests {
                 Ok(outcomes) => {
                     reported[usize::from(outcomes.report)] += 1;
                     boards[usize::from(outcomes.board)] += 1;
+                    written[usize::from(outcomes.write)] += 1;
+                    read[usize::from(outcomes.read)] += 1;
                     if let Some(slot) = outcomes.slot {
                         slots[usize::from(slot)] += 1;
                     }
@@ -395,6 +456,13 @@ mod tests {
         assert!(boards.iter().all(|&cases| cases > 0), "{boards:?}");
         assert!(boards[0] >= 300, "{boards:?}");
         assert!(slots.iter().all(|&cases| cases > 0), "{slots:?}");
+        for number in WRITING_NUMBERS {
+            assert!(written[usize::from(number)] > 0, "{written:?}");
+        }
+        assert!(written[0] >= 300 && written[40] >= 300, "{written:?}");
+        for number in (0..=refusal::CYCLE).chain([refusal::OUTPUT_TOO_SHORT]) {
+            assert!(read[usize::from(number)] > 0, "{read:?}");
+        }
         assert!(cut >= 100, "{cut}");
         assert!(above_silent >= 100, "{above_silent}");
         // The file is accepted, or it has another fault.

@@ -1,9 +1,9 @@
-//! The proved library's five functions.
+//! The proved library's seven functions.
 //!
 //! Each takes any input: none has a precondition. `out` gets the answer as
 //! 64-bit numbers, the first two being the number of the refusal (0: none) and
-//! its place. Check, address, isolate and board also return that number, whatever
-//! places `out` has.
+//! its place. All that have an `out` also return that number, whatever places it
+//! has.
 
 use reference::board::Lent;
 
@@ -16,6 +16,8 @@ pub const ADDRESS_PLACES: usize = 4;
 pub const ISOLATE_PLACES: usize = 4;
 /// Number, place, records, steps, slot.
 pub const BOARD_PLACES: usize = 5;
+/// Number, place, bytes written: of write and of read.
+pub const RECORDS_PLACES: usize = 3;
 /// A text of so many bytes has room for every answer of the report.
 pub const TEXT_BYTES: usize = 152_000;
 
@@ -61,6 +63,25 @@ extern "C" {
         read_slots: usize,
         list: *mut u8,
         list_len: usize,
+        out: *mut u64,
+        out_len: usize,
+    ) -> u64;
+
+    fn lutemarble_write(
+        model: u32,
+        records: *const u8,
+        records_len: usize,
+        file: *mut u8,
+        file_len: usize,
+        out: *mut u64,
+        out_len: usize,
+    ) -> u64;
+
+    fn lutemarble_read(
+        file: *const u8,
+        file_len: usize,
+        records: *mut u8,
+        records_len: usize,
         out: *mut u64,
         out_len: usize,
     ) -> u64;
@@ -152,6 +173,37 @@ pub fn board(
             read.lengths.len(),
             list.as_mut_ptr(),
             list.len(),
+            out.as_mut_ptr(),
+            out.len(),
+        )
+    }
+}
+
+/// An `out` of fewer than [`RECORDS_PLACES`] places keeps what it has.
+pub fn write(model: u32, records: &[u8], file: &mut [u8], out: &mut [u64]) -> u64 {
+    // SAFETY: as above; `file` and `out` are lent alone and do not overlap.
+    unsafe {
+        lutemarble_write(
+            model,
+            records.as_ptr(),
+            records.len(),
+            file.as_mut_ptr(),
+            file.len(),
+            out.as_mut_ptr(),
+            out.len(),
+        )
+    }
+}
+
+/// An `out` of fewer than [`RECORDS_PLACES`] places keeps what it has.
+pub fn read(file: &[u8], records: &mut [u8], out: &mut [u64]) -> u64 {
+    // SAFETY: as above; `records` and `out` are lent alone and do not overlap.
+    unsafe {
+        lutemarble_read(
+            file.as_ptr(),
+            file.len(),
+            records.as_mut_ptr(),
+            records.len(),
             out.as_mut_ptr(),
             out.len(),
         )

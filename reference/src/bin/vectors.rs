@@ -38,6 +38,8 @@ fn main() -> ExitCode {
         (Kind::Address, "address"),
         (Kind::Isolation, "isolation"),
         (Kind::Board, "board"),
+        (Kind::Write, "write"),
+        (Kind::Read, "read"),
     ] {
         print!("{name}");
         for (&(_, number), count) in outcomes.range((kind, 0)..=(kind, u32::MAX)) {

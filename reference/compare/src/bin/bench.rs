@@ -12,7 +12,11 @@ use compare::proved;
 use reference::board::{self, Board, Lent, MOST_SLOTS};
 use reference::isolation::RECORD_BYTES;
 use reference::large::{self, Crowding, Order};
-use reference::vectors::{expected_of_board, expected_of_check, expected_of_pair, EXPECTED};
+use reference::records::{ReadRecords, WriteRecords, RECORD_BYTES as BYTES_OF_A_RECORD};
+use reference::refusal::OUTPUT_TOO_SHORT;
+use reference::vectors::{
+    expected_of_board, expected_of_check, expected_of_pair, expected_of_records, EXPECTED,
+};
 use reference::{fast, readings, Accepted, Limits, Refusal};
 
 /// One measurement repeats a call for at least so long.
@@ -249,6 +253,166 @@ fn boards() -> Vec<Job<'static>> {
             sixteen(&largest, u64::MAX),
         ),
     ]
+}
+
+/// The records of a file that is accepted.
+fn records_of(file: &[u8]) -> Vec<u8> {
+    let needed = fast::read_records(file, &mut []).expect_err("there is no room");
+    let mut records = vec![0; needed.place];
+    let read = fast::read_records(file, &mut records);
+    assert_eq!(read, Ok(records.len()));
+    records
+}
+
+/// Writing these records in just enough room, or in the room of the records if
+/// they are refused. The answer is what the calls return; the files are compared
+/// here.
+fn write_of(name: &str, records: Vec<u8>) -> Job<'static> {
+    let mut out = [0; proved::RECORDS_PLACES];
+    let records = kept(records);
+    let room = match fast::write_records(1, records, &mut []) {
+        Err(refusal) if refusal.number == OUTPUT_TOO_SHORT => refusal.place,
+        _ => records.len(),
+    };
+    let mut file = vec![0xEE; room];
+    let mut fast_file = file.clone();
+    let mut clear_file = file.clone();
+    proved::write(1, records, &mut file, &mut out);
+    let _ = fast::write_records(1, records, &mut fast_file);
+    let _ = reference::write_records(1, records, &mut clear_file);
+    assert!(file == clear_file && fast_file == clear_file, "{name}");
+    let by_rust = move |write: WriteRecords| {
+        let mut file = vec![0; room];
+        move || {
+            let answer = write(1, black_box(records), &mut file);
+            black_box(&mut file);
+            expected_of_records(answer)
+        }
+    };
+    Job {
+        name: format!("write of {name}"),
+        proved: Box::new(move || {
+            proved::write(1, black_box(records), &mut file, &mut out);
+            black_box(&mut file);
+            answer_of(&out)
+        }),
+        reference: Box::new(by_rust(reference::write_records)),
+        fast: Box::new(by_rust(fast::write_records)),
+    }
+}
+
+/// Reading the records of a file in just enough room. The answer is what the calls
+/// return; the records are compared here.
+fn read_of(name: &str, file: Vec<u8>) -> Job<'static> {
+    let mut out = [0; proved::RECORDS_PLACES];
+    let file = kept(file);
+    let expected = records_of(file);
+    let room = expected.len();
+    let mut records = vec![0xEE; room];
+    let mut clear_records = records.clone();
+    proved::read(file, &mut records, &mut out);
+    let _ = reference::read_records(file, &mut clear_records);
+    assert!(records == expected && clear_records == expected, "{name}");
+    let by_rust = move |read: ReadRecords| {
+        let mut records = vec![0; room];
+        move || {
+            let answer = read(black_box(file), &mut records);
+            black_box(&mut records);
+            expected_of_records(answer)
+        }
+    };
+    Job {
+        name: format!("read of {name}"),
+        proved: Box::new(move || {
+            proved::read(black_box(file), &mut records, &mut out);
+            black_box(&mut records);
+            answer_of(&out)
+        }),
+        reference: Box::new(by_rust(reference::read_records)),
+        fast: Box::new(by_rust(fast::read_records)),
+    }
+}
+
+/// Files to write and to read as records.
+fn files_as_records() -> Vec<(&'static str, Vec<u8>)> {
+    let registers = LIBRARY.register_instances;
+    let count = LIBRARY.node_instances;
+    vec![
+        ("B1", large::B1.to_vec()),
+        ("64 KB, most of it captures", large::captures(PROGRAM, 0)),
+        ("64 KB, deep expressions", large::deep_expressions(PROGRAM)),
+        (
+            "1,024 registers of one instance",
+            large::register_instances(1_024, 1),
+        ),
+        (
+            "256 instances, 60 children each",
+            large::children(256, large::MOST_CHILDREN, false),
+        ),
+        ("1 MB, most of it captures", large::captures(LIBRARY, 0)),
+        ("1 MB, deep expressions", large::deep_expressions(LIBRARY)),
+        (
+            "8,192 registers, IDs shuffled",
+            large::registers_in(Order::Shuffled, registers),
+        ),
+        (
+            "8,192 instances of 33 registers",
+            large::register_instances(registers, 255),
+        ),
+        (
+            "1,024 instances, 60 children each",
+            large::children(count, large::MOST_CHILDREN, false),
+        ),
+    ]
+}
+
+/// Files written from records and read as records, and records that are refused.
+fn records() -> Vec<Job<'static>> {
+    let mut jobs = Vec::new();
+    for (name, file) in files_as_records() {
+        jobs.push(write_of(name, records_of(&file)));
+        jobs.push(read_of(name, file));
+    }
+    let captures = records_of(&large::captures(LIBRARY, 0));
+    let last = captures.len() - BYTES_OF_A_RECORD;
+    let refused = |name: &str, number: u8, change: &dyn Fn(&mut Vec<u8>)| {
+        let mut records = captures.clone();
+        change(&mut records);
+        let refusal = fast::write_records(1, &records, &mut []).expect_err(name);
+        assert_eq!(refusal.number, number, "{name}");
+        write_of(&format!("{name}: refused by {number}"), records)
+    };
+    // The root, which is the last record: another kind, and another instance.
+    jobs.push(refused(
+        "1 MB of captures, the root of kind 10",
+        40,
+        &|list| {
+            list[last] = 10;
+        },
+    ));
+    jobs.push(refused("1 MB of captures, the root absent", 12, &|list| {
+        list[last + 3] = 1;
+    }));
+    // A NOT before the last expression.
+    jobs.push(refused("1 MB of captures and a byte", 1, &|list| {
+        let not = [7, 0x12, 0, 0, 0, 0, 0, 0, 0, 0, 0, 0, 0, 0, 0, 0];
+        let expression = last - BYTES_OF_A_RECORD;
+        list.splice(expression..expression, not);
+    }));
+    jobs
+}
+
+/// Files of 1 KB, 2 KB and so on to the library's limit, written and read.
+fn growth_of_records() -> [Vec<Job<'static>>; 2] {
+    let mut writes = Vec::new();
+    let mut reads = Vec::new();
+    for power in 10..=LIBRARY.bytes.trailing_zeros() {
+        let file = large::of_size(1 << power);
+        let name = format!("some of everything, {} KB", written(1 << (power - 10)));
+        writes.push(write_of(&name, records_of(&file)));
+        reads.push(read_of(&name, file));
+    }
+    [writes, reads]
 }
 
 /// The answer is the length of the text; the texts are compared here.
@@ -664,7 +828,7 @@ fn main() {
     println!("that of the clear reference. All calls of a job are taken in turn in one run.");
     println!("No buffer is cleared before a call: each call meets the list and the answer of the");
     println!("one before it. The list has room for all bits of the node instances, the text for");
-    println!("152,000 bytes.");
+    println!("152,000 bytes, a file that is written or its records just what they need.");
     println!("The last two columns: the time by that of another job, of the proved library and of");
     println!("fast Rust. Where sizes double it is that of half the size: 2 if the time grows with");
     println!("the size, 4 if with its square. Where names collide it is that of names that are");
@@ -817,6 +981,7 @@ fn main() {
     ];
 
     let [growth_of_check, growth_of_isolation, growth_falling, growth_shuffled] = growth();
+    let [growth_of_writing, growth_of_reading] = growth_of_records();
     let group = |title, base, jobs| Group { title, base, jobs };
     let groups = [
         group("Accepted files", Base::Nothing, accepted),
@@ -843,10 +1008,13 @@ fn main() {
             collisions(LIBRARY),
         ),
         group("Boards", Base::Nothing, boards()),
+        group("Records", Base::Nothing, records()),
         group("Growth by size: check", Base::Half, growth_of_check),
         group("Growth by size: isolation", Base::Half, growth_of_isolation),
         group("Growth by size: IDs falling", Base::Half, growth_falling),
         group("Growth by size: IDs shuffled", Base::Half, growth_shuffled),
+        group("Growth by size: write", Base::Half, growth_of_writing),
+        group("Growth by size: read", Base::Half, growth_of_reading),
     ];
     let mut agree = true;
     for group in groups {

@@ -12,7 +12,7 @@ use std::process::ExitCode;
 use compare::case::Case;
 use compare::difference::compare;
 use reference::board::MOST_SLOTS;
-use reference::refusal::{self, BOARD_DOES_NOT_ADD_UP};
+use reference::refusal::{self, OUTPUT_TOO_SHORT};
 
 const USAGE: &str = "usage: fuzz [--trace] [CASES [SEED]]
        fuzz --show SEED NUMBER
@@ -75,11 +75,13 @@ fn run(numbers: &[&str], trace: bool) -> ExitCode {
         _ => return usage(),
     };
 
-    let mut checked = [0u64; BOARD_DOES_NOT_ADD_UP as usize + 1];
+    let mut checked = [0u64; OUTPUT_TOO_SHORT as usize + 1];
     let mut queried = checked;
     let mut isolated = checked;
     let mut reported = checked;
     let mut boards = checked;
+    let mut written = checked;
+    let mut read = checked;
     let mut refused_slots = [0u64; MOST_SLOTS];
     let mut cut = 0u64;
     let mut above_silent = checked;
@@ -96,6 +98,8 @@ fn run(numbers: &[&str], trace: bool) -> ExitCode {
                 isolated[usize::from(outcomes.isolate)] += 1;
                 reported[usize::from(outcomes.report)] += 1;
                 boards[usize::from(outcomes.board)] += 1;
+                written[usize::from(outcomes.write)] += 1;
+                read[usize::from(outcomes.read)] += 1;
                 if let Some(slot) = outcomes.slot {
                     refused_slots[usize::from(slot)] += 1;
                 }
@@ -132,12 +136,15 @@ fn run(numbers: &[&str], trace: bool) -> ExitCode {
         print!(" {slot}:{count}");
     }
     println!();
-    println!("number check address isolate report board");
+    println!("number check address isolate report board write read");
+    let calls = [checked, queried, isolated, reported, boards, written, read];
     for number in 0..checked.len() {
-        println!(
-            "{number} {} {} {} {} {}",
-            checked[number], queried[number], isolated[number], reported[number], boards[number]
-        );
+        let counts = calls.map(|counts| counts[number]);
+        // No call has the numbers between those of a board and of records.
+        if number <= refusal::BOARD_DOES_NOT_ADD_UP.into() || counts.iter().any(|&n| n > 0) {
+            let counts = counts.map(|count| count.to_string());
+            println!("{number} {}", counts.join(" "));
+        }
     }
     ExitCode::SUCCESS
 }

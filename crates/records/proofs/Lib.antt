@@ -1,0 +1,19 @@
+-- The laws of records.
+pub mod RunLaws
+pub mod AgainLaws
+pub mod TestLaws
+pub mod OwingLaws
+pub mod JudgingLaws
+pub mod PuttingLaws
+pub mod AllowedLaws
+pub mod ForestLaws
+pub mod PlantingLaws
+pub mod StepLaws
+pub mod ExpressionLaws
+pub mod FittingLaws
+pub mod SoundLaws
+pub mod RangeLaws
+pub mod OwedLaws
+pub mod RoomLaws
+pub mod NodeRoomLaws
+pub mod CompleteLaws

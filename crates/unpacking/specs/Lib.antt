@@ -1,0 +1,2 @@
+-- The records of a chip data file.
+pub mod Unpacking
