@@ -9,7 +9,7 @@ use Rattle.numbers.specs.BigEndian.{bytesOf}
 use Rattle.format.specs.Keywords.{regs, node, root}
 use Rattle.format.specs.Encoding.{encodeStart}
 use Rattle.records.specs.declared.Record.{Record}
-use Rattle.records.specs.Record.{recordsIn}
+use Rattle.records.specs.Record.{recordsIn, atFront}
 use Rattle.packing.specs.declared.Parts.{Parts}
 use Rattle.packing.specs.declared.Written.{Written}
 use Rattle.packing.specs.Packing.{packedOf, pack, none, rootsSection, nodesSection, registersSection, fileOf}
@@ -97,13 +97,13 @@ module _ (model : ℕ) (s : List ℕ) {size : ℕ} (is : size ≡ fileSize (reco
   file-size = is ∙ sym (size-of model (recordsIn s))
 
   pub no-room : (out : List ℕ) → length out < size → out ≡ packedIn model s out
-  unfolding packedIn
+  unfolding packedIn atFront
   no-room out h =
       let l : length out < length (fileOf model (recordsIn s)) = omega (arith, h, file-size) in
       sym (rw (lt-leb (length (fileOf model (recordsIn s))) (length out) l))
 
   pub has-room : {old new : List ℕ} {to : ℕ} → size ≤ length old → Back old new size to (fileOf model (recordsIn s)) → new ≡ packedIn model s old
-  unfolding packedIn
+  unfolding packedIn atFront
   has-room {old} {new} {to} h b =
       let file = fileOf model (recordsIn s) in
       let l : length file ≤ length old = omega (arith, h, file-size) in

@@ -1,16 +1,14 @@
 -- The file as the code writes it: how many bytes it has, the pieces of an element, and bytes that are written from the end.
 use Prim.Native.Nat.{ℕ, _+_, _-_, _≤_, _<_}
-use mathlib.Core.Bool.{cond}
 use mathlib.Core.List.{List, [], _∷_, _++_}
 use mathlib.Core.Path.{_≡_}
-use lib.Dec.{leb}
 use lib.ListN.{length, take, drop}
 use Rattle.numbers.specs.BigEndian.{bytesOf}
 use Rattle.format.specs.Fields.{addressSize}
 use Rattle.records.specs.declared.Record.{Record}
 use Rattle.records.specs.declared.Element.{Element}
 use Rattle.records.specs.declared.Element.the-variants.{Register, RegisterInstance, Node, NodeInstance, Capture, Rule, Reading, Constant, All, Any, Inverse, Left, Right, Child, Root, Unknown}
-use Rattle.records.specs.Record.{recordsFrom, recordsIn}
+use Rattle.records.specs.Record.{recordsFrom, recordsIn, atFront}
 use Rattle.records.specs.Grammar.{element}
 use Rattle.records.specs.Sizes.{ownSize}
 use Rattle.packing.specs.declared.Counts.{Counts}
@@ -22,8 +20,7 @@ use Rattle.packing.specs.Packing.{packedOf, typeWith, pack, none, ofRegi
 
 -- An output with the file at its front, where there is room for it; otherwise as it was.
 unfoldable pub packedIn : ℕ → List ℕ → List ℕ → List ℕ
-packedIn model s out =
-    let file = fileOf model (recordsIn s) in cond (leb (length file) (length out)) (file ++ drop (length file) out) out
+packedIn model s out = atFront (fileOf model (recordsIn s)) out
 
 -- The type of the last register of some records, behind one of that type.
 unfoldable pub typeAfter : ℕ → List Record → ℕ

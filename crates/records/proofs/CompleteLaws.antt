@@ -26,7 +26,8 @@ use Rattle.records.specs.Fits.{Fits}
 use Rattle.records.proofs.RunLaws.{Run, run-append, run-judge, judge-run, refusal}
 use Rattle.records.proofs.RangeLaws.{run-range, length-records, read-again}
 use Rattle.records.proofs.OwedLaws.{owing, constants-run}
-use Rattle.records.proofs.RoomLaws.{Room, wider, RegisterFits, CaptureFits, RuleFits, ChildFits, NodeInstanceFits, NodeFits, RootFits, registers-run, roots-run}
+use Rattle.records.proofs.ElementFits.{RegisterFits, CaptureFits, RuleFits, ChildFits, NodeInstanceFits, NodeFits, RootFits}
+use Rattle.records.proofs.RoomLaws.{Room, wider, registers-run, roots-run}
 use Rattle.records.proofs.NodeRoomLaws.{nodes-run}
 
 -- Trees that meet the rules.
@@ -66,7 +67,7 @@ module _ (c : Chip) (f : Fits c) where
         type = h .1 .0;
         flags = h .0 .1;
         count = h .0 .2;
-        instances = every-map _ _ (λ i a. record { number = a .0; address = a .1 }) (r .instances) (every-list-out _ _ (r .instances) (h .1 .1));
+        each = every-map _ _ (λ i a. record { number = a .0; address = a .1 }) (r .instances) (every-list-out _ _ (r .instances) (h .1 .1));
       })
       (c .registers)
       (every-both _ _ _ (f .fields .registers) (every-both _ _ _ (f .registerTypes) (every-gathered-out _ entriesOf (c .registers) (f .fields .registerInstances))))
@@ -97,7 +98,7 @@ module _ (c : Chip) (f : Fits c) where
   unfolding nodeEntries nodeEntriesOf
   nodes-fit =
       every-map _ _
-      (λ n h. record { id = h .0 .0; type = h .1 .0; count = h .0 .1; instances = every-list-out _ _ (n .instances) (h .1 .1) })
+      (λ n h. record { id = h .0 .0; type = h .1 .0; count = h .0 .1; each = every-list-out _ _ (n .instances) (h .1 .1) })
       (c .nodes)
       (every-both _ _ _ (f .fields .nodes) (every-both _ _ _ (f .nodeTypes) (every-gathered-out _ nodeEntriesOf (c .nodes) node-entries-fit)))
 

@@ -7,7 +7,7 @@ use Rattle.format.specs.Rules.{Every, allCaptures, allRules, allChildren}
 use Rattle.format.specs.Tree.{Register, Node, Chip}
 use Rattle.format.proofs.EveryLaws.{every-map, every-gathered-in, every-list-in}
 use Rattle.records.specs.Fits.{Fits}
-use Rattle.records.proofs.ForestLaws.{RegisterFits, CaptureFits, RuleFits, ChildFits, NodeInstanceFits, NodeFits, RootFits}
+use Rattle.records.proofs.ElementFits.{RegisterFits, CaptureFits, RuleFits, ChildFits, NodeInstanceFits, NodeFits, RootFits}
 
 pub record ChipFits (c : Chip) : Type 0 where
   pub model : c .model < 256 ^ 4

@@ -5,6 +5,7 @@ pub mod TestLaws
 pub mod OwingLaws
 pub mod JudgingLaws
 pub mod PuttingLaws
+pub mod ElementFits
 pub mod AllowedLaws
 pub mod ForestLaws
 pub mod PlantingLaws

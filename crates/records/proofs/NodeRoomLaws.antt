@@ -15,7 +15,8 @@ use Rattle.records.specs.Elements.{recordOf, ruleRecords, captureRecord,
 use Rattle.records.specs.Grammar.{elementOf, allowedAs, allowed, taken}
 use Rattle.records.proofs.RunLaws.{Run, step, run-append, run-one, run-all, run-each}
 use Rattle.records.proofs.OwedLaws.{used-alone, owing, expr-run}
-use Rattle.records.proofs.RoomLaws.{Room, wider, follows-yes, counts-yes, CaptureFits, RuleFits, ChildFits, NodeInstanceFits, NodeFits}
+use Rattle.records.proofs.ElementFits.{CaptureFits, RuleFits, ChildFits, NodeInstanceFits, NodeFits}
+use Rattle.records.proofs.RoomLaws.{Room, wider, follows-yes, counts-yes}
 
 module _ (n ni t : ℕ) where
   child-step : (x : Child) (m : ℕ) (b : Before) → ChildFits x → Room 4 8 0 0 n ni 0 0 (suc m) t b
@@ -94,7 +95,7 @@ module _ (t : ℕ) where
   unfolding nodeRecords
   node-step x m b f r =
       let p = node-start x m b f r in
-      let q = run-all NodeInstanceFits nodeInstanceRecords (λ j. Room 3 8 0 0 m j 0 0 0 t) (instance-step m t) (x .instances) (p .0) (f .instances) (p .2) in
+      let q = run-all NodeInstanceFits nodeInstanceRecords (λ j. Room 3 8 0 0 m j 0 0 0 t) (instance-step m t) (x .instances) (p .0) (f .each) (p .2) in
       (q .0, run-append (p .1) (q .1), wider 0 8 (lit≤ tt) (lit≤ tt) (q .2))
 
   pub nodes-run : (ns : List Node) (b : Before) → Every NodeFits ns → Room 0 8 0 0 (length ns) 0 0 0 0 t b

@@ -10,12 +10,13 @@ use borrow.Author.Tests.{lt-ltb, le-leb, eq-eqb}
 use Rattle.numbers.proofs.Bools.{and-both}
 use Rattle.format.specs.Fields.{addressSize}
 use Rattle.format.specs.Lookup.{gathered}
-use Rattle.format.specs.Rules.{Every, ExprFits}
-use Rattle.format.specs.Tree.{RegisterInstance, Register, Capture, Rule, Child, NodeInstance, Node, Root}
+use Rattle.format.specs.Rules.{Every}
+use Rattle.format.specs.Tree.{RegisterInstance, Register, Root}
 use Rattle.records.specs.declared.Before.{Before}
 use Rattle.records.specs.Elements.{recordOf, registerInstanceRecord, registerRecords, rootRecord}
 use Rattle.records.specs.Grammar.{after, oneMore, elementOf, allowedAs, allowed, taken}
 use Rattle.records.proofs.RunLaws.{Run, run-append, run-one, run-all, run-each}
+use Rattle.records.proofs.ElementFits.{InstanceFits, RegisterFits, RootFits}
 use Rattle.records.proofs.OwedLaws.{used-alone}
 
 -- Nothing is owed, the last record that is no expression has a kind of these, and each count has room for so many more.
@@ -45,52 +46,6 @@ pub counts-yes : (w n : ℕ) → suc n < 256 ^ w → oneMore w n ≡ true
 unfolding oneMore
 counts-yes w n h = lt-ltb _ _ h
 
--- What records need of each element.
-
-pub record RegisterInstanceFits (type : ℕ) (i : RegisterInstance) : Type 0 where
-  pub number : i .number < 256
-  pub address : i .address < 256 ^ addressSize type
-
-pub record RegisterFits (r : Register) : Type 0 where
-  pub id : r .id < 256 ^ 3
-  pub type : r .type < 256
-  pub flags : r .flags < 256
-  pub count : length (r .instances) < 256
-  pub instances : Every (RegisterInstanceFits (r .type)) (r .instances)
-
-pub record CaptureFits (k : Capture) : Type 0 where
-  pub id : k .id < 256 ^ 3
-  pub number : k .number < 256
-
-pub record RuleFits (r : Rule) : Type 0 where
-  pub attention : r .attention < 256
-  pub expression : ExprFits (r .expression)
-
-pub record ChildFits (k : Child) : Type 0 where
-  pub bit : k .bit < 256
-  pub id : k .id < 256 ^ 2
-  pub number : k .number < 256
-
-pub record NodeInstanceFits (i : NodeInstance) : Type 0 where
-  pub number : i .number < 256
-  pub captureCount : length (i .captures) < 256
-  pub ruleCount : length (i .rules) < 256
-  pub childCount : length (i .children) < 256
-  pub captures : Every CaptureFits (i .captures)
-  pub rules : Every RuleFits (i .rules)
-  pub children : Every ChildFits (i .children)
-
-pub record NodeFits (n : Node) : Type 0 where
-  pub id : n .id < 256 ^ 2
-  pub type : n .type < 256
-  pub count : length (n .instances) < 256
-  pub instances : Every NodeInstanceFits (n .instances)
-
-pub record RootFits (t : Root) : Type 0 where
-  pub attention : t .attention < 256
-  pub id : t .id < 256 ^ 2
-  pub number : t .number < 256
-
 -- Roots
 
 root-step : (x : Root) (m : ℕ) (b : Before) → RootFits x → Room 0 9 0 0 0 0 0 0 0 (suc m) b
@@ -109,7 +64,7 @@ roots-run = run-each RootFits rootRecord (λ m. Room 0 9 0 0 0 0 0 0 0 m) root-s
 -- Registers
 
 module _ (n t : ℕ) where
-  register-instance : (type m : ℕ) (i : RegisterInstance) (j : ℕ) (b : Before) → RegisterInstanceFits type i
+  register-instance : (type m : ℕ) (i : RegisterInstance) (j : ℕ) (b : Before) → InstanceFits type i
       → Room 1 2 m (suc j) n 0 0 0 0 t b × (b .form ≡ type)
       → (allowed b (registerInstanceRecord i) ≡ true) × (Room 1 2 m j n 0 0 0 0 t (taken b (registerInstanceRecord i)) × (taken b (registerInstanceRecord i) .form ≡ type))
   unfolding registerInstanceRecord allowed allowedAs taken elementOf
@@ -139,8 +94,8 @@ module _ (n t : ℕ) where
   unfolding registerRecords
   register-step x m b f r =
       let p = register-start x m b f r in
-      let q = run-each (RegisterInstanceFits (x .type)) registerInstanceRecord (λ j d. Room 1 2 m j n 0 0 0 0 t d × (d .form ≡ x .type))
-      (register-instance (x .type) m) (x .instances) (p .0) (f .instances) (p .2) in
+      let q = run-each (InstanceFits (x .type)) registerInstanceRecord (λ j d. Room 1 2 m j n 0 0 0 0 t d × (d .form ≡ x .type))
+      (register-instance (x .type) m) (x .instances) (p .0) (f .each) (p .2) in
       (q .0, run-append (p .1) (q .1), wider 0 2 (lit≤ tt) (lit≤ tt) (q .2 .0))
 
   pub registers-run : (rs : List Register) (b : Before) → Every RegisterFits rs → Room 0 2 (length rs) 0 n 0 0 0 0 t b

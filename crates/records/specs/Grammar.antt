@@ -81,7 +81,7 @@ after least most b = eqb (b .owed) 0 && (leb least (b .last) && leb (b .last) mo
 unfoldable pub isOwed : Before → Bool
 isOwed b = ltb 0 (b .owed)
 
--- "(register instance*)* (node (node-instance capture* (rule expression)* child*)*)* root*"
+-- The order of docs/RECORDS.md, "in the file's order": (register instance*)* (node (node-instance capture* (rule expression)* child*)*)* root*.
 abbrev pub follows : Before → Element → Bool
 follows b Register = after 0 2 b
 follows b RegisterInstance = after 1 2 b

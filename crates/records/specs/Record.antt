@@ -2,6 +2,7 @@
 use Prim.Native.Nat.{ℕ, zero, suc, _+_, _/_}
 use mathlib.Core.Bool.{cond}
 use mathlib.Core.List.{List, [], _∷_, _++_}
+use lib.Dec.{leb}
 use lib.ListN.{length, take, drop}
 use Rattle.numbers.specs.BigEndian.{bytesOf}
 use Rattle.numbers.specs.Field.{present, field}
@@ -48,3 +49,7 @@ recordWithin s at =
 -- Some bytes with a record at a place, where there is room for it; elsewhere as they are.
 unfoldable pub putRecord : List ℕ → ℕ → Record → List ℕ
 putRecord s at r = cond (present s at recordSize) (take at s ++ (recordBytes r ++ drop (at + recordSize) s)) s
+
+-- Some bytes at the front of an output that has room for all of them; otherwise the output as it is.
+unfoldable pub atFront : List ℕ → List ℕ → List ℕ
+atFront bytes out = cond (leb (length bytes) (length out)) (bytes ++ drop (length bytes) out) out

@@ -16,7 +16,8 @@ use Rattle.records.specs.declared.Element.the-variants as element
 use Rattle.records.specs.Elements.{recordOf, exprRecords, captureRecord, ruleRecords, childRecord, nodeInstanceRecords, nodeRecords}
 use Rattle.unpacking.specs.declared.Left.{Left}
 use Rattle.unpacking.specs.Unpacking.{leftOf, valueAt, elementNext}
-use Rattle.unpacking.proofs.Steps.{some, one-less, gathered-singles, value-in, Goes, goes-one, goes-join, goes-row}
+use Rattle.format.proofs.GatheredLaws.{gathered-each}
+use Rattle.unpacking.proofs.Steps.{some, one-less, value-in, Goes, goes-one, goes-join, goes-row}
 use Rattle.unpacking.proofs.ExpressionRuns.{withOwed, goes-expr}
 
 -- Among the nodes no register and no root is to come.
@@ -140,7 +141,7 @@ module _ (s : List ℕ) where
         (goes-rule (length (x .children)) i n) (x .rules) _ (h .rules) (e .0) in
         let gk : Goes s _ (nodesLeft 0 0 (length (x .children)) i n) rk m (nodesLeft 0 0 0 i n) =
         goes-row s ChildFine encodeChild (λ y. childRecord y ∷ []) (λ j. nodesLeft 0 0 j i n) (goes-child i n) (x .children) _ (h .children) (e .1) in
-        rw (← gathered-singles captureRecord (x .captures), ← gathered-singles childRecord (x .children))
+        rw (← gathered-each captureRecord (x .captures), ← gathered-each childRecord (x .children))
         (goes-join s (recordOf 4 0 0 (x .number) 0 0 ∷ []) (rc ++ (ru ++ rk)) (b .0) (goes-join s rc (ru ++ rk) gc (goes-join s ru rk gu gk)))
 
   pub goes-node : (x : Node) (n at m : ℕ) → NodeFine x → Spell s at m (encodeNode x)

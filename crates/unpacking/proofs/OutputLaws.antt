@@ -2,23 +2,23 @@
 use Prim.Native.Nat.{ℕ, zero, suc, _+_, _-_, _*_, _≤_, _<_}
 use mathlib.Core.Bool.{Bool, true, false, cond}
 use mathlib.Core.List.{List, [], _∷_, _++_, append-assoc}
-use mathlib.Core.Path.{_≡_, refl, sym, _∙_, ap}
+use mathlib.Core.Path.{_≡_, sym, _∙_, ap}
 use native.Mathlib.Omega.{arith}
 use borrow.Author.Tests.{le-leb, lt-leb}
 use lib.ListN.{length, take, drop, length-append, length-take, length-drop, take-append-drop}
 use lib.Seq.{take-at, drop-append-add, drop-drop}
 use Rattle.limits.specs.Limits.{libraryLimits}
-use Rattle.numbers.proofs.BigEndianLaws.{length-bytes}
 use Rattle.numbers.proofs.FieldLaws.{present-yes}
 use Rattle.format.specs.Fields.{addressSize}
 use Rattle.format.specs.Lookup.{gathered}
+use Rattle.records.proofs.RangeLaws.{length-record, length-records}
 use Rattle.records.specs.declared.Record.{Record}
 use Rattle.records.specs.declared.Element.{Element}
-use Rattle.records.specs.Record.{recordBytes, putRecord}
+use Rattle.records.specs.Record.{recordBytes, putRecord, atFront}
 use Rattle.records.specs.Sizes.{ownSize}
 use Rattle.unpacking.specs.declared.Left.{Left}
 use Rattle.unpacking.specs.declared.Passed.{Passed}
-use Rattle.unpacking.specs.Unpacking.{elementNext, recordNext, leftNext, known, runOf, inFront, run, passed, registersIn, nodesIn, rootsIn, runRegisters, runNodes, runRoots, unpacked, unpackedWithin, unpackedBytes, atFront, putRecords}
+use Rattle.unpacking.specs.Unpacking.{elementNext, recordNext, leftNext, known, runOf, inFront, run, passed, registersIn, nodesIn, rootsIn, runRegisters, runNodes, runRoots, unpacked, unpackedWithin, unpackedBytes, putRecords}
 use Rattle.unpacking.proofs.LoopLaws.{end-le}
 
 -- A run has no more records than turns.
@@ -117,14 +117,8 @@ module _ (s out : List ℕ) {first second third : List ℕ} {a b : Passed} {l m 
       (r ∙ ap (λ k. putRecords second (16 * (a .count + b .count)) (k .records)) kn)
 
 -- The bytes of records.
-record-length : (r : Record) → length (recordBytes r) ≡ 16
-unfolding recordBytes
-record-length r = simp (length-append, length-bytes)
-
 pub records-length : (rs : List Record) → length (gathered recordBytes rs) ≡ 16 * length rs
-unfolding gathered
-records-length [] = refl
-records-length (r ∷ rs) = length-append (recordBytes r) (gathered recordBytes rs) ∙ omega (arith, record-length r, records-length rs)
+records-length rs = omega (arith, length-records rs)
 
 record-put : (out : List ℕ) (to : ℕ) (r : Record) → to + 16 ≤ length out → putRecord out to r ≡ take to out ++ (recordBytes r ++ drop (to + 16) out)
 unfolding putRecord
@@ -141,7 +135,7 @@ put-room out to (r ∷ rs) h =
     let front = take to out ++ recordBytes r in
     let new = putRecord out to r in
     let k = 16 * length rs in
-    let l : length front ≡ to + 16 = omega (arith, length-append (take to out) (recordBytes r), length-take to out, record-length r) in
+    let l : length front ≡ to + 16 = omega (arith, length-append (take to out) (recordBytes r), length-take to out, length-record r) in
     let e : new ≡ front ++ drop (to + 16) out =
     record-put out to r (omega arith) ∙ sym (append-assoc (take to out) (recordBytes r) (drop (to + 16) out)) in
     let a : take (to + 16) new ≡ front = ap (take (to + 16)) e ∙ take-at front (drop (to + 16) out) (to + 16) l in

@@ -18,7 +18,8 @@ use Rattle.records.specs.declared.Element.the-variants as element
 use Rattle.records.specs.Elements.{recordOf, registerInstanceRecord, registerRecords, rootRecord}
 use Rattle.unpacking.specs.declared.Left.{Left}
 use Rattle.unpacking.specs.Unpacking.{leftOf, valueAt, elementNext}
-use Rattle.unpacking.proofs.Steps.{some, one-less, gathered-singles, value-in, Goes, goes-none, goes-one, goes-join, goes-row}
+use Rattle.format.proofs.GatheredLaws.{gathered-each}
+use Rattle.unpacking.proofs.Steps.{some, one-less, value-in, Goes, goes-none, goes-one, goes-join, goes-row}
 
 -- Among the registers no node and no root is to come; among the roots nothing else.
 abbrev pub registersLeft : ℕ → ℕ → ℕ → Left
@@ -81,7 +82,7 @@ module _ (s : List ℕ) where
       let vt : valueAt s (at + 3) 1 ≡ x .type = value-in s (at + 3) 1 _ (lit< tt) (d .0) p (h .type) in
       let vf : valueAt s (at + 4) 1 ≡ x .flags = value-in s (at + 4) 1 _ (lit< tt) (e .0) q (h .flags) in
       let vc : valueAt s (at + 5) 1 ≡ length (x .instances) = value-in s (at + 5) 1 _ (lit< tt) (e .1) u (h .count) in
-      rw (← gathered-singles registerInstanceRecord (x .instances))
+      rw (← gathered-each registerInstanceRecord (x .instances))
       (goes-join s (recordOf 1 (x .type) (x .flags) 0 (x .id) 0 ∷ []) (gathered (λ y. registerInstanceRecord y ∷ []) (x .instances))
       (goes-one s at (registersLeft f 0 (suc r)) element.Register (rw some) refl (rw (vi, vt, vf)) t (lit≤ tt) (rw (vt, vc, one-less)))
       (goes-row s (RegisterInstanceFine (x .type)) (encodeRegisterInstance (x .type)) (λ y. registerInstanceRecord y ∷ [])

@@ -1,7 +1,7 @@
 -- Runs over the bytes that stand at a place: what a run passes, element by element.
 use Prim.Native.Nat.{ℕ, suc, _+_, _-_, _^_, _≤_, _<_}
 use mathlib.Core.Bool.{true}
-use mathlib.Core.List.{List, [], _∷_, _++_, map}
+use mathlib.Core.List.{List, [], _∷_, _++_}
 use mathlib.Core.Path.{_≡_, refl, sym, ap, subst}
 use native.Mathlib.Omega.{arith}
 use lib.Dec.{ltb}
@@ -58,11 +58,6 @@ pub ahead-end : (rs : List Record) (m : ℕ) → ahead rs (runOf [] m) ≡ runOf
 unfolding ahead
 ahead-end [] m = refl
 ahead-end (r ∷ rs) m = ap (inFront r) (ahead-end rs m)
-
-pub gathered-singles : {A B : Type 0} (f : A → B) (xs : List A) → gathered (λ x. f x ∷ []) xs ≡ map f xs
-unfolding gathered
-gathered-singles f [] = refl
-gathered-singles f (x ∷ xs) = ap (λ l. f x ∷ l) (gathered-singles f xs)
 
 module _ (s : List ℕ) where
   -- The number whose bytes stand at a place.

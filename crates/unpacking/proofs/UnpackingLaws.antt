@@ -19,7 +19,8 @@ use Rattle.records.specs.Elements.{registerRecords, nodeRecords, rootRecord, el
 use Rattle.records.specs.Fits.{Fits}
 use Rattle.unpacking.specs.declared.Left.{Left}
 use Rattle.unpacking.specs.Unpacking.{valueAt, elementNext, runOf, run, runRegisters, runNodes, runRoots, unpacked}
-use Rattle.unpacking.proofs.Steps.{turns, turns-length, ahead, ahead-end, gathered-singles, value-in, Goes, goes-row}
+use Rattle.format.proofs.GatheredLaws.{gathered-each}
+use Rattle.unpacking.proofs.Steps.{turns, turns-length, ahead, ahead-end, value-in, Goes, goes-row}
 use Rattle.unpacking.proofs.NodeRuns.{nodesLeft, NodeFine, goes-node}
 use Rattle.unpacking.proofs.FineParts.{registers-fine, nodes-fine, roots-fine}
 use Rattle.unpacking.proofs.RegisterRuns.{registersLeft, rootsLeft, RegisterFine, RootFine, lastType, goes-registers, goes-root}
@@ -89,7 +90,7 @@ module _ (s : List ℕ) where
       let g : Goes s (at + 5) (rootsLeft (length ts)) (gathered (λ t. rootRecord t ∷ []) ts) m (rootsLeft 0) =
       goes-row s RootFine encodeRoot (λ t. rootRecord t ∷ []) rootsLeft (goes-root s) ts (at + 5) f
       (subst (λ p. Spell s p m (gathered encodeRoot ts)) w (b .1)) in
-      rw (v, ← gathered-singles rootRecord ts) (all-of (at + 5) (rootsLeft (length ts)) (gathered (λ t. rootRecord t ∷ []) ts) m _ g (roots-end m) l)
+      rw (v, ← gathered-each rootRecord ts) (all-of (at + 5) (rootsLeft (length ts)) (gathered (λ t. rootRecord t ∷ []) ts) m _ g (roots-end m) l)
 
 start-length : (m : ℕ) → length (encodeStart m) ≡ 13
 unfolding encodeStart chipdata bytesOf

@@ -3,7 +3,7 @@ use Prim.Native.Nat.{ℕ, zero, suc, _+_, _-_}
 use mathlib.Core.Bool.{Bool, true, false, cond}
 use mathlib.Core.List.{List, [], _∷_, _++_}
 use lib.Dec.{leb, ltb}
-use lib.ListN.{length, drop}
+use lib.ListN.{length}
 use Rattle.limits.specs.Limits.{libraryLimits}
 use Rattle.numbers.specs.Field.{numberAt}
 use Rattle.format.specs.Fields.{addressSize}
@@ -167,10 +167,6 @@ unpackedWithin s = cond (leb (length s) (libraryLimits .bytes)) (unpacked s) []
 -- Their bytes.
 unfoldable pub unpackedBytes : List ℕ → List ℕ
 unpackedBytes s = gathered recordBytes (unpackedWithin s)
-
--- Some bytes at the front of an output that has room for all of them; otherwise the output as it is.
-unfoldable pub atFront : List ℕ → List ℕ → List ℕ
-atFront bytes out = cond (leb (length bytes) (length out)) (bytes ++ drop (length bytes) out) out
 
 -- Records one after another from a place on, each where there is room for it.
 unfoldable pub putRecords : List ℕ → ℕ → List Record → List ℕ

@@ -11,7 +11,8 @@ ghost use Rattle.limits.specs.Limits.{libraryLimits};
 ghost use Rattle.numbers.specs.Field.{sizeOf};
 ghost use Rattle.format.specs.Fields.{addressSize};
 ghost use Rattle.records.specs.Elements.{recordOf};
-ghost use Rattle.unpacking.specs.Unpacking.{valueAt, elementNext, recordNext, owing, leftNext, known, run, passed, registersIn, nodesIn, rootsIn, unpacked, unpackedBytes, atFront, putRecords};
+ghost use Rattle.records.specs.Record.{atFront};
+ghost use Rattle.unpacking.specs.Unpacking.{valueAt, elementNext, recordNext, owing, leftNext, known, run, passed, registersIn, nodesIn, rootsIn, unpacked, unpackedBytes, putRecords};
 
 // How many elements are still to come, of each kind that has a count; and the type of the last register.
 pub struct Left {

@@ -18,10 +18,9 @@ use Rattle.format.specs.Parsed.{Parsed, done, refused, making, require}
 use Rattle.format.specs.Tree.{Chip}
 use Rattle.format.specs.Verdict.{verdict, check, checkOf}
 use Rattle.format.proofs.NumberedLaws.{kind-some, verdict-numbered}
-use Rattle.records.specs.Record.{recordsIn}
+use Rattle.records.specs.Record.{recordsIn, atFront}
 use Rattle.packing.specs.Packing.{fileOf}
 use Rattle.packing.specs.Writing.{packedIn}
-use Rattle.unpacking.specs.Unpacking.{atFront}
 use Rattle.writer.specs.declared.Output
 use Rattle.writer.specs.declared.Output.{Output}
 use Rattle.writer.specs.Writing.{Answer, refusedAnswer, inOutput, answerOf}
@@ -203,7 +202,7 @@ module _ (limits : Limits) (room : ℕ) (file out : List ℕ) (r : Output) (o : 
 -- The packed file in a buffer.
 
 packed-front : (model : ℕ) (s b : List ℕ) → packedIn model s b ≡ atFront (fileOf model (recordsIn s)) b
-unfolding packedIn atFront
+unfolding packedIn
 packed-front model s b = refl
 
 module _ (model : ℕ) (s b : List ℕ) {n : ℕ} {u : List ℕ} (size : n ≡ length (fileOf model (recordsIn s))) (put : u ≡ packedIn model s b) where

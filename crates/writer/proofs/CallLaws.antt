@@ -21,7 +21,7 @@ use Rattle.format.proofs.ParsedLaws.{never}
 use Rattle.records.specs.declared.Before.{Before}
 use Rattle.records.specs.declared.grammar.Judged
 use Rattle.records.specs.declared.grammar.Judged.{Judged}
-use Rattle.records.specs.Record.{recordsIn}
+use Rattle.records.specs.Record.{recordsIn, atFront}
 use Rattle.records.specs.Elements.{elements, records}
 use Rattle.records.specs.Grammar.{grammar}
 use Rattle.records.specs.Judging.{judgedParsed}
@@ -29,7 +29,7 @@ use Rattle.records.specs.Planting.{treeOf}
 use Rattle.records.proofs.AgainLaws.{grammar-out}
 use Rattle.records.proofs.CompleteLaws.{meets-fits}
 use Rattle.records.proofs.SoundLaws.{grammar-sound}
-use Rattle.unpacking.specs.Unpacking.{unpackedWithin, unpackedBytes, atFront}
+use Rattle.unpacking.specs.Unpacking.{unpackedWithin, unpackedBytes}
 use Rattle.unpacking.proofs.UnpackingLaws.{unpacked-tree}
 use Rattle.packing.specs.Packing.{fileOf}
 use Rattle.packing.proofs.PackingLaws.{packed-file}

@@ -8,7 +8,7 @@ use lib.Dec.{leb}
 use lib.ListN.{length, take, drop, length-append, length-drop}
 use lib.Seq.{take-append-seam}
 use borrow.Author.Tests.{le-leb, leb-true}
-use Rattle.unpacking.specs.Unpacking.{atFront}
+use Rattle.records.specs.Record.{atFront}
 
 front-fits : (bytes out : List ℕ) → leb (length bytes) (length out) ≡ true → length (atFront bytes out) ≡ length out
 unfolding atFront

@@ -1,4 +1,4 @@
--- The file built in a buffer of the writer's own, which goes by the size of the file, before the output is touched.
+-- The file built in a buffer of the writer's own, before the output is touched.
 use Prim.Native.Nat.{ℕ}
 use mathlib.Core.Bool.{Bool, true, cond, not}
 use mathlib.Core.List.{List}

@@ -12,7 +12,7 @@ use packing::pack_file;
 ghost use Prim.Native.Nat.{_≤_};
 ghost use mathlib.Core.Path.{_≡_};
 ghost use lib.ListN.{length};
-ghost use Rattle.limits.specs.Limits.{libraryLimits};
+ghost use Rattle.limits.specs.Limits.{libraryLimits, programLimits};
 ghost use Rattle.records.specs.Record.{recordsIn};
 ghost use Rattle.packing.specs.Packing.{fileOf};
 ghost use Rattle.writer.specs.Building.{builtIn, isExact};
@@ -64,7 +64,7 @@ fn write_middle(model: u32, records: &[u8], out: &mut [u8]) -> Output
 
 // With the large one, which has room for every file of the program.
 fn write_large(model: u32, records: &[u8], out: &mut [u8]) -> Output
-    ensures { λ r. ⌜ answerOf r (now (out .exit)) ≡ builtIn libraryLimits 65536 (fileOf model (recordsIn (now (records .entry)))) (now (out .entry)) ⌝ }
+    ensures { λ r. ⌜ answerOf r (now (out .exit)) ≡ builtIn libraryLimits (programLimits .bytes) (fileOf model (recordsIn (now (records .entry)))) (now (out .entry)) ⌝ }
 {
     let mut buffer = [0u8; PROGRAM_BYTES];
     write_in(model, records, &mut buffer, out)
