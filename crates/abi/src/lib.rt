@@ -1,5 +1,7 @@
 // The calls of the library for C and Rust. Each takes any input. All but the report return the number of their refusal, 0 where there is none,
 // and put their whole answer to a lent list of numbers; a list that is too short for it keeps what it has.
+#![tactic(auto)]
+
 ghost use Rattle.std.specs.Prelude.{◌≤◌, [], ◌∷◌, ◌≡◌};
 ghost use Rattle.limits.specs.Limits.{library_limits};
 ghost use Rattle.format.specs.Verdict.{check, address};

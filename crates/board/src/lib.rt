@@ -1,6 +1,8 @@
 // Isolation of a board: up to sixteen chips, whose files and readings are lent end to end.
 //
 // The rows of each slot's listed bits are kept in two tables until it is known that no slot is refused; the tables go by the length of the files, so that a small board pays for small ones.
+#![tactic(auto)]
+
 ghost use Rattle.std.specs.Prelude.{◌+◌, ◌*◌, ◌≤◌, true, false, ◌≡◌, length};
 ghost use Rattle.limits.specs.Limits.{library_limits, slots, board_node_instances};
 ghost use Rattle.isolation.specs.Outcome.{is_exact};
@@ -16,14 +18,14 @@ use isolation::{Found, Isolated, Kept, find};
 mod sums;
 
 // The answer of a board: as that of one chip, and the slot that is refused. With success and with 19 and 20 the slot is 0.
-#[derive(Drop)]
+#[derive(Clone, Copy)]
 pub struct Boarded {
     pub answer: Isolated,
     pub slot: usize,
 }
 
 // The rows of some slots together; or the first refusal, with its slot.
-#[derive(Drop)]
+#[derive(Clone, Copy)]
 pub enum Gathered {
     Rows(Kept),
     Refused(Refusal, usize),

@@ -1,4 +1,6 @@
 // Cycles of a table of children: 64 places for each node instance, each with the position of the child of a bit. A value that is no position, or a place beyond the table, is no child.
+#![tactic(auto)]
+
 ghost use Rattle.std.specs.Prelude.{◌≡◌, ℕ, ◌*◌, ◌<◌, ◌≤◌, true, false, ◌&&◌, length, ◌==◌, nat_le, nat_lt, slice_index};
 ghost use Rattle.limits.specs.Limits.{library_limits};
 ghost use Rattle.graph.specs.Below.{any};
@@ -162,7 +164,7 @@ const TURNS: usize = 2 * limits::NODE_INSTANCES;
 const RANKED: usize = TURNS + 1;
 
 // What a look at an instance's children shows: the first to which the search has not come, or n; and the least number of those before that one, or RANKED where none of them is open.
-#[derive(Drop)]
+#[derive(Clone, Copy)]
 struct Seen {
     unmet: usize,
     least: usize,

@@ -1,4 +1,6 @@
 // The minutes' demands in their own words. Each function calls one of the library's and promises what the demands ask of its answer by the library's limits.
+#![tactic(auto)]
+
 ghost use Rattle.limits.specs.declared.LimitSet;
 ghost use Rattle.limits.specs.declared.LimitSet.{LimitSet};
 ghost use Rattle.demands.specs.Demand1.{Refuses};

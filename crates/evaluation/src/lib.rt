@@ -1,4 +1,6 @@
 // What a rule's expression is worth with readings. Only isolation calls it.
+#![tactic(auto)]
+
 ghost use Rattle.std.specs.Prelude.{ℕ, ◌≡◌, eqb, get_or};
 ghost use Rattle.format.specs.ExpressionLayout.{expr_at};
 ghost use Rattle.format.specs.Parsed.{done};
@@ -14,7 +16,7 @@ use tables::entry;
 use tables::positions::find_name;
 
 // The value of an expression, whether it names a register without a reading, the place of the first such, and the place after it.
-#[derive(Drop)]
+#[derive(Clone, Copy)]
 pub struct Value {
     pub word: u64,
     pub unread: bool,

@@ -1,4 +1,6 @@
 // Expressions: a head, which is what an expression's own fields say, and the operands after it.
+#![tactic(auto)]
+
 ghost use Rattle.std.specs.Prelude.{◌≡◌};
 ghost use Rattle.format.specs.Fields.{field_at};
 ghost use Rattle.format.specs.Parsed.{done, making};
@@ -14,7 +16,7 @@ use format::{Kind, Refusal};
 use numbers::Width;
 
 // What an expression's own fields say. Its operands follow: none, the number that it holds, or one.
-#[derive(Drop)]
+#[derive(Clone, Copy)]
 pub enum Head {
     Reading(u64, u8),
     Constant(u64),
@@ -26,7 +28,7 @@ pub enum Head {
 }
 
 // A head with the place after it, or a refusal.
-#[derive(Drop)]
+#[derive(Clone, Copy)]
 pub enum HeadRead {
     Head(Head, usize),
     Refused(Refusal),

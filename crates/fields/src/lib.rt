@@ -1,4 +1,6 @@
 // Fields of a chip data file: bytes and numbers at a place, the values that are allowed of them, and the answers that readers give.
+#![tactic(auto)]
+
 ghost use Rattle.std.specs.Prelude.{◌≡◌, eqb};
 ghost use Rattle.numbers.specs.Field.{size_of};
 ghost use Rattle.format.specs.Parsed.{requiring};
@@ -11,49 +13,49 @@ use numbers::Width;
 pub mod seen;
 
 // A byte with the place after it, or a refusal.
-#[derive(Drop)]
+#[derive(Clone, Copy)]
 pub enum ByteRead {
     Byte(u8, usize),
     Refused(Refusal),
 }
 
 // A number with the place after it, or a refusal.
-#[derive(Drop)]
+#[derive(Clone, Copy)]
 pub enum NumberRead {
     Number(u64, usize),
     Refused(Refusal),
 }
 
 // The place after an element whose value is not kept, or a refusal.
-#[derive(Drop)]
+#[derive(Clone, Copy)]
 pub enum NextRead {
     Next(usize),
     Refused(Refusal),
 }
 
 // A register or a node, read whole: its ID, how many instances it has, and the place after it; or a refusal.
-#[derive(Drop)]
+#[derive(Clone, Copy)]
 pub enum ElementRead {
     Element(u64, u8, usize),
     Refused(Refusal),
 }
 
 // How many instances some registers or nodes have, with the place after them; or a refusal.
-#[derive(Drop)]
+#[derive(Clone, Copy)]
 pub enum CountRead {
     Count(usize, usize),
     Refused(Refusal),
 }
 
 // A section: how many registers or nodes it has, how many instances, and the place after it; or a refusal.
-#[derive(Drop)]
+#[derive(Clone, Copy)]
 pub enum SectionRead {
     Section(usize, usize, usize),
     Refused(Refusal),
 }
 
 // An ID that is not below a bound, with the place after it; or a refusal; or neither, where the ID is below.
-#[derive(Drop)]
+#[derive(Clone, Copy)]
 pub enum RisingId {
     Id(u64, usize),
     Refused(Refusal),
@@ -61,7 +63,7 @@ pub enum RisingId {
 }
 
 // The same of a whole register or node.
-#[derive(Drop)]
+#[derive(Clone, Copy)]
 pub enum RisingElement {
     Element(u64, u8, usize),
     Refused(Refusal),
@@ -69,7 +71,7 @@ pub enum RisingElement {
 }
 
 // The same of some registers or nodes.
-#[derive(Drop)]
+#[derive(Clone, Copy)]
 pub enum RisingCount {
     Read(CountRead),
     Falls,

@@ -1,4 +1,6 @@
 // The public types of the chip data reader, and its keywords. The layout and its rules are in specs/.
+#![tactic(auto)]
+
 ghost use Rattle.std.specs.Prelude.{◌≡◌};
 ghost use Rattle.format.specs.Refusals.{number_of};
 
@@ -12,7 +14,7 @@ pub const NODE: [u8; 4] = *b"NODE";
 pub const ROOT: [u8; 4] = *b"ROOT";
 
 // Why an input is refused: a case for each number of the refusal table, in its order; and the last, a table that a caller lent for a file and that is too short for it.
-#[derive(Drop)]
+#[derive(Clone, Copy)]
 pub enum Kind {
     FileTooLong,
     FieldCut,
@@ -40,14 +42,14 @@ pub enum Kind {
 }
 
 // A refusal: why, and where.
-#[derive(Drop)]
+#[derive(Clone, Copy)]
 pub struct Refusal {
     pub kind: Kind,
     pub place: usize,
 }
 
 // What an accepted file holds.
-#[derive(Drop)]
+#[derive(Clone, Copy)]
 pub struct Summary {
     pub model: u64,
     pub registers: usize,
@@ -58,14 +60,14 @@ pub struct Summary {
 }
 
 // The checker's answer.
-#[derive(Drop)]
+#[derive(Clone, Copy)]
 pub enum Checked {
     Accepted(Summary),
     Refused(Refusal),
 }
 
 // The address query's answer: the address's place in the file and its size in bytes.
-#[derive(Drop)]
+#[derive(Clone, Copy)]
 pub enum Address {
     At(usize, usize),
     Refused(Refusal),

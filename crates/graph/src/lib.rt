@@ -1,1 +1,2 @@
 // Definitions and laws alone: directed graphs on the numbers below n.
+#![tactic(auto)]

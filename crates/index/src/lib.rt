@@ -1,4 +1,6 @@
 // The nodes section, with a table that has a row for each node instance, in file order; and of a file whose layout was read, where the address of a register instance stands.
+#![tactic(auto)]
+
 ghost use Rattle.std.specs.Prelude.{◌≡◌};
 ghost use Rattle.index.specs.Rows.{Rows, put_row};
 
@@ -6,7 +8,7 @@ pub mod addresses;
 pub mod node_rows;
 
 // What a register starts with, and the place after that.
-#[derive(Drop)]
+#[derive(Clone, Copy)]
 pub struct Head {
     pub id: u64,
     pub kind: u8,
@@ -15,7 +17,7 @@ pub struct Head {
 }
 
 // A register instance or a node instance: its number, the place that its row holds, and the place after it.
-#[derive(Drop)]
+#[derive(Clone, Copy)]
 pub struct Instance {
     pub number: u8,
     pub place: usize,

@@ -1,4 +1,6 @@
 // Isolation: which error bits are active, from a chip data file and register readings.
+#![tactic(auto)]
+
 ghost use Rattle.std.specs.Prelude.{◌≤◌, true, ◌≡◌, length};
 ghost use Rattle.limits.specs.Limits.{library_limits};
 ghost use Rattle.isolation.specs.Outcome.{outcome_of, find, isolate};
@@ -15,35 +17,35 @@ mod reach;
 pub mod written;
 
 // How many records were written, and how many node instances were reached.
-#[derive(Drop)]
+#[derive(Clone, Copy)]
 pub struct Isolation {
     pub records: usize,
     pub steps: usize,
 }
 
 // A word of active bits, and the place of the first reading without a value that its rule has; 0 where it has none.
-#[derive(Drop)]
+#[derive(Clone, Copy)]
 pub struct Activity {
     pub word: u64,
     pub unread: usize,
 }
 
 // Rows of listed bits at the front of two tables, the heads in one and the words in the other: how many, and how many node instances were reached.
-#[derive(Drop)]
+#[derive(Clone, Copy)]
 pub struct Kept {
     pub rows: usize,
     pub steps: usize,
 }
 
 // What isolation finds before a list is looked at.
-#[derive(Drop)]
+#[derive(Clone, Copy)]
 pub enum Found {
     Rows(Kept),
     Refused(Refusal),
 }
 
 // The answer of isolation.
-#[derive(Drop)]
+#[derive(Clone, Copy)]
 pub enum Isolated {
     Done(Isolation),
     Refused(Refusal),

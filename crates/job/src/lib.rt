@@ -1,4 +1,6 @@
 // The station's job: reads chip.cdb and readings.bin in the working folder, takes the value of the first byte of standard input as the attention type (none: 0), and prints the list of active bits or a refusal.
+#![tactic(auto)]
+
 ghost use Rattle.io.specs.Counts.{IsPrefixLen};
 ghost use Rattle.job.specs.Printed.{Printed};
 

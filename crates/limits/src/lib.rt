@@ -1,11 +1,13 @@
 // The limits of a chip data file: the library's, and the program's.
+#![tactic(auto)]
+
 ghost use Rattle.std.specs.Prelude.{◌≡◌};
 ghost use Rattle.limits.specs.Limits.{limits_of};
 
 pub mod classes;
 
 // Whose limits hold.
-#[derive(Drop)]
+#[derive(Clone, Copy)]
 pub enum LimitSet {
     Library,
     Program,

@@ -1,4 +1,6 @@
 // What the node instances of a file whose layout was read lead to: the rule of each for an attention type, and the writing of single places in a table of children.
+#![tactic(auto)]
+
 ghost use Rattle.std.specs.Prelude.{ℕ, ◌+◌, true, List, [], ◌≡◌, length, set};
 ghost use Rattle.format.specs.NodeLayout.{rule_at, node_instance_at};
 ghost use Rattle.format.specs.Parsed.{done, row_at};

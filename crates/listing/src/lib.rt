@@ -1,4 +1,6 @@
 // The list: the listed bits are kept as rows first, a head and a word for each node instance that has one; the records are written from the rows, and only where there is room for all.
+#![tactic(auto)]
+
 ghost use Rattle.std.specs.Prelude.{◌≡◌, true, cond, [], ◌∷◌, ◌++◌, ℕ, ◌+◌, ◌*◌, ◌<◌, ◌≤◌, eqb, length, get_or, take, drop};
 ghost use Rattle.limits.specs.Limits.{library_limits, board_node_instances};
 ghost use Rattle.numbers.specs.Bits.{bit_of};
@@ -8,7 +10,7 @@ ghost use Rattle.walk.specs.TableGraph.{table_size, table_graph};
 ghost use Rattle.listing.specs.Rows.{is_done, listed_word, row_word, set_to, head_of, head_record, word_records, row, rows_of, first_rows, kept_count, kept_records, RowsKept, RowsIn, Wrote, listing_values, listing_for, table_links, table_records, list_after};
 
 // How many records were written; or how many there is no room for.
-#[derive(Drop)]
+#[derive(Clone, Copy)]
 pub enum Listing {
     Written(usize),
     NoRoom(usize),

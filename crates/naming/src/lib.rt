@@ -1,4 +1,6 @@
 // The registers that captures and rules name: whether all of them fit, and once the layout was read, their faults, refusals 12 and 13.
+#![tactic(auto)]
+
 ghost use Rattle.std.specs.Prelude.{ℕ, ◌+◌, ◌≤◌, true, length, ◌++◌, ◌≡◌};
 ghost use Rattle.format.specs.ExpressionLayout.{expr_at};
 ghost use Rattle.format.specs.Lookup.{gathered};

@@ -1,5 +1,7 @@
 // The nodes section in one pass, where the numbers of the instances of each node rise: its layout, a row for each node instance, and whether every register fits that captures and rules
 // name. The IDs of the nodes may come in any order; where they rise no list of them is kept. A section that is not read this way is left to the exact reader.
+#![tactic(auto)]
+
 ghost use Rattle.std.specs.Prelude.{◌+◌, ◌≤◌, ◌&&◌, ◌≡◌, length};
 ghost use Rattle.tables.specs.Indexed.{IndexOf};
 ghost use Rattle.nodes.specs.Nodes.{ChildrenRead};
@@ -15,14 +17,14 @@ mod one_pass;
 pub mod section;
 
 // Where a part of the section ends, and whether every register fits that it names. The place is 0 where the part is not read in this pass.
-#[derive(Drop)]
+#[derive(Clone, Copy)]
 pub struct Pass {
     pub next: usize,
     pub fits: bool,
 }
 
 // A node instance: its number, what is kept of its children, the place after it, and whether every register fits that it names. The place is 0 where it is not read in this pass.
-#[derive(Drop)]
+#[derive(Clone, Copy)]
 pub struct InstancePass {
     pub number: u8,
     pub children: u64,
@@ -31,7 +33,7 @@ pub struct InstancePass {
 }
 
 // What a node starts with. The count is 0 where the node is not read in this pass; `falls` is true where that is for its ID.
-#[derive(Drop)]
+#[derive(Clone, Copy)]
 pub struct HeadPass {
     pub id: u64,
     pub kind: u8,
@@ -41,7 +43,7 @@ pub struct HeadPass {
 
 // Some nodes: how many instances they have, the place after them, and whether every register fits that they name. The place is 0 where they are not read in this pass; `falls` is true where
 // that is for an ID that is not above the one before it.
-#[derive(Drop)]
+#[derive(Clone, Copy)]
 pub struct NodesPass {
     pub total: usize,
     pub next: usize,
@@ -50,7 +52,7 @@ pub struct NodesPass {
 }
 
 // The nodes section: how many nodes and instances it has, the place after it, and whether every register was found to fit that it names. The place is 0 where a pass does not read it.
-#[derive(Drop)]
+#[derive(Clone, Copy)]
 pub struct SectionPass {
     pub nodes: usize,
     pub total: usize,

@@ -19,7 +19,7 @@ use limits::LimitSet;
 use tables::positions::enter_all;
 
 // The nodes section, or a refusal.
-#[derive(Drop)]
+#[derive(Clone, Copy)]
 pub enum NodesRead {
     Section(SectionPass),
     Refused(Refusal),

@@ -1,4 +1,6 @@
 // Nodes and node instances.
+#![tactic(auto)]
+
 ghost use Rattle.std.specs.Prelude.{ℕ, ◌+◌, true, List, [], map, ◌≡◌, length};
 ghost use Rattle.format.specs.Fields.{field_at};
 ghost use Rattle.format.specs.Parsed.{making, requiring, row_at};
@@ -17,7 +19,7 @@ use format::{Kind, Refusal};
 use numbers::Width;
 
 // What a node starts with.
-#[derive(Drop)]
+#[derive(Clone, Copy)]
 pub struct NodeHead {
     pub id: u64,
     pub kind: u8,
@@ -25,14 +27,14 @@ pub struct NodeHead {
 }
 
 // A node's head with the place after it, or a refusal.
-#[derive(Drop)]
+#[derive(Clone, Copy)]
 pub enum NodeHeadRead {
     Head(NodeHead, usize),
     Refused(Refusal),
 }
 
 // What a node instance starts with.
-#[derive(Drop)]
+#[derive(Clone, Copy)]
 pub struct InstanceHead {
     pub number: u8,
     pub captures: u8,
@@ -41,7 +43,7 @@ pub struct InstanceHead {
 }
 
 // A node instance's head with the place after it, or a refusal.
-#[derive(Drop)]
+#[derive(Clone, Copy)]
 pub enum InstanceHeadRead {
     Head(InstanceHead, usize),
     Refused(Refusal),

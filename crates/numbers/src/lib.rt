@@ -1,4 +1,6 @@
 // Numbers: big-endian numbers at a place of a lent slice, and words of 64 bits with bit 0 leftmost.
+#![tactic(auto)]
+
 ghost use Rattle.std.specs.Prelude.{◌≡◌, ◌≤◌, length};
 ghost use Rattle.numbers.specs.BigEndian.{big_endian};
 ghost use Rattle.numbers.specs.Bits.{not_word, and_word, or_word, left_word, right_word};
@@ -6,7 +8,7 @@ ghost use Rattle.numbers.specs.NextBit.{next_bit, without_next, with_bit};
 ghost use Rattle.numbers.specs.Field.{size_of, number_values, byte_values, number_at};
 
 // How many bytes a number takes.
-#[derive(Drop)]
+#[derive(Clone, Copy)]
 pub enum Width {
     Two,
     Three,
@@ -15,14 +17,14 @@ pub enum Width {
 }
 
 // A number with the place after it, or one that is not wholly there.
-#[derive(Drop)]
+#[derive(Clone, Copy)]
 pub enum NumberRead {
     Number(u64, usize),
     Cut,
 }
 
 // A byte with the place after it, or none.
-#[derive(Drop)]
+#[derive(Clone, Copy)]
 pub enum ByteRead {
     Byte(u8, usize),
     Cut,

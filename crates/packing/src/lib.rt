@@ -1,4 +1,6 @@
 // A chip data file from its records, written from the end: an element's counts are known when its record is met.
+#![tactic(auto)]
+
 ghost use Rattle.std.specs.Prelude.{cond, [], ◌++◌, ◌≡◌, ◌+◌, ◌*◌, ◌^◌, ◌≤◌, length};
 ghost use Rattle.numbers.specs.BigEndian.{bytes_of};
 ghost use Rattle.format.specs.Encoding.{encode_start};
@@ -10,7 +12,7 @@ ghost use Rattle.packing.specs.Writing.{packed_in, sizes, file_size, Split, piec
 use records::{Element, Record, address_size, element_of, own_size, record_at};
 
 // How many elements stand behind a record whose parents stand before it, of each kind that has a count.
-#[derive(Drop)]
+#[derive(Clone, Copy)]
 pub struct Counts {
     pub register_instances: u64,
     pub registers: u64,
@@ -23,7 +25,7 @@ pub struct Counts {
 }
 
 // Four numbers, each in so many bytes.
-#[derive(Drop)]
+#[derive(Clone, Copy)]
 pub struct Pieces {
     pub first_size: u8,
     pub first: u64,
@@ -36,7 +38,7 @@ pub struct Pieces {
 }
 
 // How many records there are of registers and of roots, and how many others between them.
-#[derive(Drop)]
+#[derive(Clone, Copy)]
 pub struct Parts {
     pub registers: usize,
     pub others: usize,
@@ -44,14 +46,14 @@ pub struct Parts {
 }
 
 // A register type, and the first record of a part from which on it is that of the last register before, up to the record at hand.
-#[derive(Drop)]
+#[derive(Clone, Copy)]
 pub struct Nearest {
     pub since: usize,
     pub form: u8,
 }
 
 // Where the bytes of a part start, and the counts of its elements whose parents stand before them.
-#[derive(Drop)]
+#[derive(Clone, Copy)]
 pub struct Written {
     pub at: usize,
     pub counts: Counts,

@@ -1,4 +1,6 @@
 // The reader of chip data files.
+#![tactic(auto)]
+
 ghost use Rattle.std.specs.Prelude.{◌≡◌};
 ghost use Rattle.limits.specs.Limits.{library_limits};
 ghost use Rattle.format.specs.declared.Checked.{Checked};
@@ -18,7 +20,7 @@ mod roots;
 pub mod wanted;
 
 // Where a file's sections begin, and what it holds; and whether every register that captures and rules name was found to fit while it was read.
-#[derive(Drop)]
+#[derive(Clone, Copy)]
 pub struct Layout {
     pub model: u64,
     pub registers: usize,
@@ -34,7 +36,7 @@ pub struct Layout {
 }
 
 // The layout of a file, or a refusal: the first of 1 to 11 in byte order; of a file that was examined that of 1 to 14, or 43 where a table is too short.
-#[derive(Drop)]
+#[derive(Clone, Copy)]
 pub enum LayoutRead {
     Done(Layout),
     Refused(Refusal),

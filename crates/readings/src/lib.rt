@@ -1,4 +1,6 @@
 // The readings file: words and read bytes from its records, one record for each register instance.
+#![tactic(auto)]
+
 ghost use Rattle.std.specs.Prelude.{◌+◌, ◌*◌, ◌≤◌, ◌≡◌, length, drop};
 ghost use Rattle.numbers.specs.Field.{size_of, field};
 ghost use Rattle.tables.specs.Tables.{written};
@@ -99,7 +101,7 @@ fn put_read(bytes: &[u8], keys: &[u64], read: &mut [u8])
 }
 
 // The answer of decoding a readings file.
-#[derive(Drop)]
+#[derive(Clone, Copy)]
 pub enum Decoded {
     Read,
     Refused(Refusal),

@@ -9,7 +9,7 @@ use crate::{Before, Element, Record, element_of, nothing_before, record_at};
 use format::{Kind, Refusal};
 
 // The place after the records, or a refusal.
-#[derive(Drop)]
+#[derive(Clone, Copy)]
 pub enum Judged {
     Taken(usize),
     Refused(Refusal),

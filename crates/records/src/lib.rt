@@ -1,4 +1,6 @@
 // The records of a chip data file: 16 bytes for each element, and which records may follow which. Their fields are in docs/RECORDS.md.
+#![tactic(auto)]
+
 ghost use Rattle.std.specs.Prelude.{◌+◌, ◌≤◌, ◌≡◌, length};
 ghost use Rattle.numbers.specs.Field.{size_of, field};
 ghost use Rattle.format.specs.Fields.{address_size};
@@ -12,7 +14,7 @@ use numbers::{NumberRead, Width, number_at};
 pub mod grammar;
 
 // A record by its fields. The form is its type.
-#[derive(Drop)]
+#[derive(Clone, Copy)]
 pub struct Record {
     pub kind: u8,
     pub form: u8,
@@ -23,7 +25,7 @@ pub struct Record {
 }
 
 // What a record is: an element of the file, by its kind and, of an expression, by its type; or, of another kind or type, `Unknown`.
-#[derive(Drop)]
+#[derive(Clone, Copy)]
 pub enum Element {
     Register,
     RegisterInstance,
@@ -44,7 +46,7 @@ pub enum Element {
 }
 
 // What the records before one say of it: the kind of the last that is no expression, the type of the last register, how many expressions are owed, and how many elements there are of each count that goes on.
-#[derive(Drop)]
+#[derive(Clone, Copy)]
 pub struct Before {
     pub last: u8,
     pub form: u8,

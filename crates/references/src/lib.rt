@@ -1,4 +1,6 @@
 // Refusals 12 and 13 of a file whose layout was read: the names that its captures, rules and children hold, by the tables of the file. Children that are there are written to a table.
+#![tactic(auto)]
+
 ghost use Rattle.std.specs.Prelude.{ℕ, ◌+◌, ◌%◌, true, List, [], map, ◌≡◌, set};
 ghost use Rattle.format.specs.Lookup.{gathered, NodeEntry};
 ghost use Rattle.format.specs.NodeLayout.{capture_at, rule_at, child_at, node_instance_at};

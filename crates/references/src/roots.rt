@@ -19,7 +19,7 @@ use numbers::Width;
 use tables::name_position;
 
 // A root: its attention type, its node instance, and the place after it.
-#[derive(Drop)]
+#[derive(Clone, Copy)]
 pub struct RootEntry {
     pub attention: u8,
     pub id: u64,

@@ -1,4 +1,6 @@
 // The registers section, with a row for each register instance.
+#![tactic(auto)]
+
 ghost use Rattle.std.specs.Prelude.{ℕ, suc, min, ◌+◌, ◌≤◌, ◌<◌, true, cond, List, [], map, ◌≡◌, length, leb};
 ghost use Rattle.limits.specs.Classes.{middle};
 ghost use Rattle.limits.specs.Limits.{library_limits, limits_of};

@@ -1,4 +1,6 @@
 // The parts of a register.
+#![tactic(auto)]
+
 ghost use Rattle.std.specs.Prelude.{ℕ, ◌+◌, true, List, map, ◌≡◌, length};
 ghost use Rattle.format.specs.Fields.{field_at, address_size};
 ghost use Rattle.format.specs.Parsed.{making, requiring};
@@ -16,7 +18,7 @@ use format::{Kind, Refusal};
 use numbers::Width;
 
 // What a register starts with.
-#[derive(Drop)]
+#[derive(Clone, Copy)]
 pub struct RegisterHead {
     pub id: u64,
     pub kind: u8,
@@ -25,7 +27,7 @@ pub struct RegisterHead {
 }
 
 // A register's head with the place after it, or a refusal.
-#[derive(Drop)]
+#[derive(Clone, Copy)]
 pub enum RegisterHeadRead {
     Head(RegisterHead, usize),
     Refused(Refusal),

@@ -1,6 +1,8 @@
 // The station's answer: isolation with a readings file, and its text.
 //
 // A function that puts text puts it to a lent list of bytes from a place on, leaves out what stands beyond the end of the list, and answers the place after it.
+#![tactic(auto)]
+
 ghost use Rattle.std.specs.Prelude.{◌+◌, ◌*◌, ◌≤◌, ◌<◌, ◌≡◌, [], ◌++◌, eqb, length, drop, set};
 ghost use Rattle.isolation.specs.Outcome.{outcome_of};
 ghost use Rattle.report.specs.Text.{Put, decimal, named, bit_line, record_line, record_lines, steps_line, refused_line, text_of};

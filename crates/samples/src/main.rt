@@ -1,6 +1,8 @@
 // Runs the bench samples that are not in the proved table, and further ones for change requests (iii) and (x), and prints what came out of each.
 //
 // What each sample has to give is worked out from the rules and the layout in the comment above its function. Each function puts its file together in a lent buffer, from the bytes of B1 as far as they serve. So each file, and with it each record, has model/level 1; and each record has slot 0, which the call for one chip writes.
+#![tactic(auto)]
+
 use crate::build::{
     part, put, put_all, put_b1, put_child, put_nodes, put_nots, put_parent, put_register,
     put_registers,

@@ -1,4 +1,6 @@
 // The station's program.
+#![tactic(auto)]
+
 fn main() {
     job::run();
 }

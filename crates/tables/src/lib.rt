@@ -1,4 +1,6 @@
 // Tables of numbers: what a name is kept as, where it stands, and writing.
+#![tactic(auto)]
+
 ghost use Rattle.std.specs.Prelude.{◌≡◌, eqb, get_or, set};
 ghost use Rattle.format.specs.Lookup.{position};
 ghost use Rattle.tables.specs.Faults.{position_in};

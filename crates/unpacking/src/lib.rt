@@ -1,4 +1,6 @@
 // The records of a chip data file that was accepted, read from its first byte to its last.
+#![tactic(auto)]
+
 ghost use Rattle.std.specs.Prelude.{◌≡◌, ◌+◌, ◌-◌, ◌*◌, ◌≤◌, length};
 ghost use Rattle.limits.specs.Limits.{library_limits};
 ghost use Rattle.numbers.specs.Field.{size_of};
@@ -11,7 +13,7 @@ use numbers::{ByteRead, NumberRead, Width};
 use records::{Element, Record};
 
 // How many elements are still to come, of each kind that has a count; and the type of the last register.
-#[derive(Drop)]
+#[derive(Clone, Copy)]
 pub struct Left {
     pub form: u8,
     pub owed: u64,
@@ -26,7 +28,7 @@ pub struct Left {
 }
 
 // How many records a run gave, and the place after their elements.
-#[derive(Drop)]
+#[derive(Clone, Copy)]
 pub struct Passed {
     pub count: usize,
     pub end: usize,

@@ -1,4 +1,6 @@
 // Walks a file of vectors, `vectors.bin`, which the reference makes: calls of the checker, the address query, isolation, the board call and the two calls of records, each with the answer that is expected. It calls the library on each, compares every value and every byte of the list or output, and prints how many cases there were of each outcome and how many differ.
+#![tactic(auto)]
+
 ghost use Rattle.std.specs.Prelude.{◌≡◌, length};
 
 use crate::case::case_met;

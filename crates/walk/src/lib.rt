@@ -1,4 +1,6 @@
 // The walk over a graph of node instances that two lent tables give: a word of active bits for each instance, and 64 places for the children of each.
+#![tactic(auto)]
+
 ghost use Rattle.std.specs.Prelude.{◌≡◌, List, ℕ, ◌*◌, ◌≤◌, ◌<◌, ltb, length};
 ghost use Rattle.walk.specs.TableGraph.{table_size, child_at, table_graph};
 ghost use Rattle.walk.specs.Marks.{mark_count, first_waiting, waiting_words, state_of, step_walk, started, finished};
@@ -9,14 +11,14 @@ ghost use Rattle.walk.specs.Fold.{or_else, touch_child, touched_to};
 const WORDS: usize = limits::NODE_INSTANCES / 64;
 
 // The walk's state: a mark for each of 1,024 node instances: 0 untouched, 1 waiting, 2 done; and the waiting ones as the bits of words, 64 in each.
-#[derive(Drop)]
+#[derive(Clone, Copy)]
 pub struct Walk {
     pub marks: [u8; limits::NODE_INSTANCES],
     pub waiting: [u64; WORDS],
 }
 
 // A walk that has come to its end, and how many steps it took.
-#[derive(Drop)]
+#[derive(Clone, Copy)]
 pub struct Walked {
     pub marks: [u8; limits::NODE_INSTANCES],
     pub steps: usize,

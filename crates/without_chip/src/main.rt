@@ -1,4 +1,6 @@
 // The station's job without a chip data file: it counts as empty, so that its first field is not there, number 2.
+#![tactic(auto)]
+
 fn main() {
     job::run();
 }

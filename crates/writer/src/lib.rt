@@ -1,4 +1,6 @@
 // Chip data files written from records, and read into them. Neither call writes to the output before it is known that it will not refuse.
+#![tactic(auto)]
+
 ghost use Rattle.std.specs.Prelude.{◌≤◌, ◌++◌, ◌≡◌, length, drop};
 ghost use Rattle.limits.specs.Limits.{library_limits};
 ghost use Rattle.format.specs.Parsed.{done};
@@ -14,7 +16,7 @@ use unpacking::unpack;
 mod classes;
 
 // How many bytes were written to the lent output; or a refusal, with which the output keeps its bytes.
-#[derive(Drop)]
+#[derive(Clone, Copy)]
 pub enum Output {
     Written(usize),
     Refused(Refusal),
