@@ -1,0 +1,26 @@
+use mathlib.Core.List.{[], ◌∷◌}
+use native.Mathlib.Omega.{arith}
+use lib.ListN.{length-set}
+use borrow.Author.Rules.{rules}
+use Rattle.tables.specs.Tables.{written}
+use Rattle.abi.proofs.ValuesLaws.{answered_short, answered_long}
+use Rattle.abi.proofs.put_four.Goals as goal
+
+pub returns-then-out-lt4 : goal.returns-then-out-lt4
+returns-then-out-lt4 c = answered_short _ _ c.if-out-lt4.true
+
+pub bounds-out-1 : goal.bounds-out-1
+bounds-out-1 c = simp length-set (omega arith)
+
+pub bounds-out-2 : goal.bounds-out-2
+bounds-out-2 c = simp length-set (omega arith)
+
+pub bounds-out-3 : goal.bounds-out-3
+bounds-out-3 c = simp length-set (omega arith)
+
+pub shape_of-out : goal.shape_of-out
+shape_of-out c = simp length-set
+
+pub returns : goal.returns
+unfolding written
+returns c = answered_long (c.args.a ∷ c.args.b ∷ c.args.c ∷ c.args.d ∷ []) _ c.if-out-lt4.false

@@ -1,0 +1,8 @@
+use borrow.Author.Rules.{rules}
+use Rattle.board.proofs.board_middle.Goals as goal
+
+pub returns : goal.returns
+returns c = record {
+  exact = c.board_in.ensures.exact;
+  kept = c.board_in.ensures.kept.0;
+}

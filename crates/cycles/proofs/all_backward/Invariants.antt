@@ -1,0 +1,12 @@
+-- The invariant: no number in the rows passed passes the test.
+use Rattle.std.proofs.Common.{◌-◌, ◌≤◌, sym, ◌∙◌, arith, rules}
+use borrow.Author.Tests.{not-true, not-false}
+use Rattle.cycles.specs.Order.{not_earlier}
+use Rattle.cycles.proofs.OrderLaws.{Passed, passed_none, passed_row, passed_all, row-not, row_short}
+use Rattle.cycles.proofs.all_backward.Given as goal
+
+abbrev pub invariant-loop-i : goal.invariant-loop-i
+invariant-loop-i l = (l.i ≤ l.n) × Passed (not_earlier l.n) l.child l.i
+
+abbrev pub decreases-loop-i : goal.decreases-loop-i
+decreases-loop-i l = l.n - l.i

@@ -1,0 +1,17 @@
+use Rattle.std.proofs.Common.{◌≡◌, ℕ, ◌-◌, ◌<◌, ◌≤◌, false, sym, ◌∙◌, arith, rules, below_more}
+use Rattle.cycles.specs.Cycle.{in_cycle}
+use Rattle.cycles.proofs.FirstLaws.{first_at, first_none}
+use Rattle.cycles.proofs.first_from.Goals as goal
+
+pub loop-i-init : goal.loop-i-init
+loop-i-init c = (c.requires.1, c.requires.2)
+
+pub returns-then-on_cycle : goal.returns-then-on_cycle
+returns-then-on_cycle c =
+    first_at _ _ _ c.loop-i-test.true c.loop-i.invariant.1 (sym c.on_cycle.ensures ∙ c.if-on_cycle.true)
+
+pub loop-i-preserved : goal.loop-i-preserved
+loop-i-preserved c = (search rules, below_more _ _ c.loop-i.invariant.1 (sym c.on_cycle.ensures ∙ c.if-on_cycle.false))
+
+pub returns : goal.returns
+returns c = first_none _ _ (λ k h. c.loop-i.invariant.1 k (omega arith))

@@ -1,0 +1,22 @@
+use Prim.Native.Nat.{ℕ, ◌-◌, ◌<◌}
+use mathlib.Core.Path.{◌≡◌, refl}
+use mathlib.Core.List.{[]}
+use borrow.Author.Rules.{rules}
+use native.Mathlib.Omega.{arith}
+use Rattle.format.specs.Parsed.{row_at}
+use Rattle.format.specs.ExpressionLayout.{expr_at}
+use Rattle.fields.specs.Views.{forget}
+use Rattle.expressions.proofs.HeadLaws.{down_none}
+use Rattle.expressions.proofs.OpeningLaws.{unsaid, opening_level, opening_row, down_on}
+use Rattle.expressions.proofs.+end_of.Given as goal
+
+abbrev pub invariant-loop-left : goal.invariant-loop-left
+invariant-loop-left l =
+    (0 < l.levels) × (forget (expr_at l.s l.levels l.at) ≡ forget (row_at (λ before. expr_at l.s (l.levels - 1)) l.left [] l.place))
+
+abbrev pub decreases-loop-left : goal.decreases-loop-left
+decreases-loop-left l = l.left
+
+-- MEASURE abbrev μ-end-of : Measures 1 end-of-kinds.ps ℕ μ-end-of κs a = a.1.1.0
+abbrev pub decreases-end_of : goal.decreases-end_of
+decreases-end_of l = ?

@@ -1,0 +1,13 @@
+use borrow.Author.Rules.{rules}
+use Rattle.expressions.specs.Heads.{reading_head_at}
+use Rattle.fields.proofs.Steps.{steps}
+use Rattle.expressions.proofs.reading_head_at.Goals as goal
+
+pub returns-in-Byte : goal.returns-in-Byte
+returns-in-Byte c = search steps
+
+pub returns-in-Refused-n : goal.returns-in-Refused-n
+returns-in-Refused-n c = search steps
+
+pub returns-in-Refused : goal.returns-in-Refused
+returns-in-Refused c = search steps

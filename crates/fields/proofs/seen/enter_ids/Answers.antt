@@ -1,0 +1,7 @@
+use native.Mathlib.Omega.{arith}
+use borrow.Author.Rules.{rules}
+use Rattle.tables.proofs.IndexedLaws.{indexed_none}
+use Rattle.fields.proofs.seen.enter_ids.Goals as goal
+
+pub returns-then-largest-id : goal.returns-then-largest-id
+returns-then-largest-id c = (omega arith, λ h i. indexed_none _ _)

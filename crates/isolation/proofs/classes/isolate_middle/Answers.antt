@@ -1,0 +1,11 @@
+use borrow.Author.Rules.{rules}
+use Rattle.limits.specs.Classes.{middle}
+use Rattle.isolation.specs.Outcome.{isolate}
+use Rattle.isolation.proofs.FoundLaws.{within_same, own_answered}
+use Rattle.isolation.proofs.classes.isolate_middle.Goals as goal
+
+pub returns : goal.returns
+unfolding isolate
+returns c =
+    let w = within_same c.find_middle-f.result _ _ _ _ c.places-2-1.given c.unread-2-1.given c.find_middle-f.ensures.rows_within in
+    own_answered _ middle _ _ _ c.find_middle-f.ensures.unread_after (c.write_found.ensures w)

@@ -1,0 +1,11 @@
+use borrow.Author.Rules.{rules}
+use Rattle.limits.specs.Classes.{small}
+use Rattle.isolation.specs.Outcome.{isolate}
+use Rattle.isolation.proofs.FoundLaws.{within_same, own_answered}
+use Rattle.isolation.proofs.classes.isolate_small.Goals as goal
+
+pub returns : goal.returns
+unfolding isolate
+returns c =
+    let w = within_same c.find_small-f.result _ _ _ _ c.places-2-1.given c.unread-2-1.given c.find_small-f.ensures.rows_within in
+    own_answered _ small _ _ _ c.find_small-f.ensures.unread_after (c.write_found.ensures w)

@@ -1,0 +1,5 @@
+use borrow.Author.Rules.{rules}
+use Rattle.isolation.proofs.isolate.Goals as goal
+
+pub returns : goal.returns
+returns c = c.isolate_with.ensures

@@ -1,9 +1,0 @@
--- Each set has its own.
-use borrow.Author.Rules.{rules}
-use Rattle.limits.specs.Limits.{limits_of}
-use Rattle.limits.proofs.register_instances.Statement.{statement}
-use Rattle.limits.proofs.register_instances.Tie as tie
-
-pub register-instances-spec : {M : Type 1} → statement M
-unfolding limits_of
-register-instances-spec = tie.close (tie.spec (λ c. search rules) (λ c. search rules) (λ c. rw c.enum_told.given.1) (λ c. rw c.enum-told2.given.1))

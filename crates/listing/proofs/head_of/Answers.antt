@@ -1,0 +1,8 @@
+use mathlib.Core.Path.{refl}
+use borrow.Author.Rules.{rules}
+use Rattle.listing.specs.Rows.{head_of}
+use Rattle.listing.proofs.head_of.Goals as goal
+
+pub returns : goal.returns
+unfolding head_of
+returns c = refl

@@ -1,0 +1,19 @@
+use Prim.Native.Nat.{ℕ, ◌-◌, ◌<◌}
+use borrow.Author.Rules.{rules}
+use native.Mathlib.Omega.{arith}
+use Rattle.tables.specs.Faults.{name_faults}
+use Rattle.tables.specs.Indexed.{IndexOf}
+use Rattle.expressions.proofs.OpeningLaws.{unsaid, opening_level}
+use Rattle.naming.proofs.FitLaws.{FitAhead, fit_reading, fit_opened, fit_more, fit_end}
+use Rattle.naming.proofs.+fit_at.Given as goal
+
+abbrev pub invariant-loop-left : goal.invariant-loop-left
+invariant-loop-left l =
+    (0 < l.levels) × (IndexOf l.index l.keys → FitAhead (name_faults l.keys l.kinds l.kind) l.s l.levels l.at l.left l.place)
+
+abbrev pub decreases-loop-left : goal.decreases-loop-left
+decreases-loop-left l = l.left
+
+-- MEASURE abbrev μ-fit-at : Measures 4 fit-at-kinds.ps ℕ μ-fit-at κs a = a.1.1.0
+abbrev pub decreases-fit_at : goal.decreases-fit_at
+decreases-fit_at l = ?

@@ -1,0 +1,38 @@
+use Prim.Native.Nat.{◌+◌}
+use native.Mathlib.Omega.{arith}
+use borrow.Author.Rules.{rules}
+use Rattle.naming.proofs.FitLaws.{key_bytes}
+use Rattle.naming.proofs.key_at.Goals as goal
+
+pub overflow_cast-result : goal.overflow_cast-result
+overflow_cast-result c = omega (arith, c.type_inv.s c.args.at)
+
+pub overflow_mul-result : goal.overflow_mul-result
+overflow_mul-result c = omega (arith, c.type_inv.s c.args.at)
+
+pub overflow_cast-result-2 : goal.overflow_cast-result-2
+overflow_cast-result-2 c = omega (arith, c.type_inv.s (c.args.at + 1))
+
+pub overflow_mul-result-2 : goal.overflow_mul-result-2
+overflow_mul-result-2 c = omega (arith, c.type_inv.s (c.args.at + 1))
+
+pub overflow_add-result-2 : goal.overflow_add-result-2
+overflow_add-result-2 c = omega (arith, c.type_inv.s c.args.at, c.type_inv.s (c.args.at + 1))
+
+pub overflow_cast-result-3 : goal.overflow_cast-result-3
+overflow_cast-result-3 c = omega (arith, c.type_inv.s (c.args.at + 2))
+
+pub overflow_mul-result-3 : goal.overflow_mul-result-3
+overflow_mul-result-3 c = omega (arith, c.type_inv.s (c.args.at + 2))
+
+pub overflow_add-result-4 : goal.overflow_add-result-4
+overflow_add-result-4 c = omega (arith, c.type_inv.s c.args.at, c.type_inv.s (c.args.at + 1), c.type_inv.s (c.args.at + 2))
+
+pub overflow_cast-result-4 : goal.overflow_cast-result-4
+overflow_cast-result-4 c = omega (arith, c.type_inv.s (c.args.at + 2), c.type_inv.s (c.args.at + 3))
+
+pub overflow_add-result-6 : goal.overflow_add-result-6
+overflow_add-result-6 c = omega (arith, c.type_inv.s c.args.at, c.type_inv.s (c.args.at + 1), c.type_inv.s (c.args.at + 2), c.type_inv.s (c.args.at + 3))
+
+pub returns : goal.returns
+returns c = key_bytes c.args.s.now c.args.at (λ i. (c.type_inv.s i).fits)

@@ -1,0 +1,20 @@
+-- The invariant: the tables keep their lengths, there is room for those that are left, and these decide.
+use Prim.Native.Nat.{◌+◌, ◌≤◌}
+use mathlib.Core.Path.{◌≡◌, refl, ◌∙◌}
+use native.Mathlib.Omega.{arith}
+use borrow.Author.Rules.{rules}
+use lib.ListN.{length}
+use Rattle.expressions.proofs.OpeningLaws.{unsaid}
+use Rattle.tables.specs.Indexed.{IndexOf}
+use Rattle.index.proofs.FillingLaws.{Sized, sized_put}
+use Rattle.node_pass.proofs.InstanceLaws.{Instances, instances_begin, instances_next, instances_end}
+use Rattle.node_pass.proofs.instances_pass.Given as goal
+
+abbrev pub invariant-loop-left : goal.invariant-loop-left
+invariant-loop-left l =
+    Sized (record { l.keys = l.initial.names; l.kinds = l.initial.wanted; l.places = l.initial.places }) (record { l.keys = l.names; l.kinds = l.wanted; l.places = l.places }) × (length l.children ≡ length l.initial.children) × (l.begun + l.left ≤ l.limit)
+    × (IndexOf l.index l.keys
+    → Instances l.limit l.s l.keys l.kinds l.id l.kind l.count l.total l.at (record { l.keys = l.initial.names; l.kinds = l.initial.wanted; l.places = l.initial.places }) l.initial.children (record { l.keys = l.names; l.kinds = l.wanted; l.places = l.places }) l.children l.bound l.fits l.begun l.left l.place)
+
+abbrev pub decreases-loop-left : goal.decreases-loop-left
+decreases-loop-left l = l.left

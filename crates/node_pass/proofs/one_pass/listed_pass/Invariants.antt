@@ -1,0 +1,23 @@
+-- The invariant: `ids`, `id_index` and `largest` are those of the nodes so far, the tables keep their lengths, the nodes so far have no more instances than there may be, and those that are left decide.
+use Prim.Native.Nat.{ℕ, ◌≤◌}
+use mathlib.Core.Path.{◌≡◌, refl, sym, ◌∙◌, ap}
+use native.Mathlib.Omega.{arith}
+use borrow.Author.Rules.{rules}
+use lib.ListN.{length, length-set, length-replicate}
+use lib.Seq.{length-take-le}
+use Rattle.limits.specs.Limits.{library_limits}
+use Rattle.tables.specs.Indexed.{places_for, IndexOf}
+use Rattle.expressions.proofs.OpeningLaws.{unsaid}
+use Rattle.nodes.specs.Nodes.{node_head_parsed}
+use Rattle.index.proofs.FillingLaws.{Sized}
+use Rattle.node_pass.proofs.ListedLaws.{Listed, listed_begin, listed_next, listed_end, ids_told, head_some}
+use Rattle.node_pass.proofs.one_pass.listed_pass.Given as goal
+
+abbrev pub invariant-loop-left : goal.invariant-loop-left
+invariant-loop-left l =
+    (length l.ids ≡ library_limits.node_instances) × (length l.id_index ≡ places_for library_limits.node_instances) × Sized (record { l.keys = l.initial.names; l.kinds = l.initial.wanted; l.places = l.initial.places }) (record { l.keys = l.names; l.kinds = l.wanted; l.places = l.places })
+    × (length l.children ≡ length l.initial.children) × (l.known ≤ l.total) × (l.total ≤ l.limit) × (l.limit ≤ library_limits.node_instances)
+    × Listed (IndexOf l.index l.keys) l.limit l.s l.keys l.kinds l.n l.at (record { l.keys = l.initial.names; l.kinds = l.initial.wanted; l.places = l.initial.places }) l.initial.children l.ids l.id_index l.known l.entered l.largest (record { l.keys = l.names; l.kinds = l.wanted; l.places = l.places }) l.children l.fits l.total l.left l.place
+
+abbrev pub decreases-loop-left : goal.decreases-loop-left
+decreases-loop-left l = l.left

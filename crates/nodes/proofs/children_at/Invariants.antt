@@ -1,0 +1,21 @@
+-- The invariant: the marks tell the bits of the children so far, and those that are left decide.
+use Prim.Native.Nat.{ℕ, ◌+◌}
+use mathlib.Core.Bool.{true}
+use mathlib.Core.List.{[]}
+use mathlib.Core.Path.{sym, ◌∙◌, ap}
+use native.Mathlib.Omega.{arith}
+use borrow.Author.Rules.{rules}
+use Rattle.format.specs.Parsed.{row_at}
+use Rattle.format.specs.NodeLayout.{child_at}
+use Rattle.nodes.specs.Nodes.{child_bit}
+use Rattle.fields.specs.Views.{byte_parsed}
+use Rattle.fields.proofs.RowLaws.{RowIn, row_begin, row_next, row_last, row_refused}
+use Rattle.nodes.proofs.NodeLaws.{child_few}
+use Rattle.nodes.proofs.children_at.Given as goal
+
+abbrev pub invariant-loop-left : goal.invariant-loop-left
+invariant-loop-left l =
+    (begun : ℕ) × RowIn 64 (child_at l.s true) child_bit (row_at (child_at l.s true) l.n [] l.at) 0 begun l.seen l.left l.place
+
+abbrev pub decreases-loop-left : goal.decreases-loop-left
+decreases-loop-left l = l.left

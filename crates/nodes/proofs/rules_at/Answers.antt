@@ -1,0 +1,32 @@
+use Prim.Native.Nat.{ℕ, ◌+◌}
+use mathlib.Core.Bool.{true}
+use mathlib.Core.List.{[]}
+use mathlib.Core.Path.{sym, ◌∙◌, ap}
+use native.Mathlib.Omega.{arith}
+use borrow.Author.Rules.{rules}
+use Rattle.format.specs.Parsed.{row_at}
+use Rattle.format.specs.NodeLayout.{rule_at}
+use Rattle.nodes.specs.Nodes.{rule_attention}
+use Rattle.fields.specs.Views.{byte_parsed}
+use Rattle.fields.proofs.RowLaws.{RowIn, row_begin, row_next, row_last, row_refused}
+use Rattle.nodes.proofs.NodeLaws.{rule_few}
+use Rattle.nodes.proofs.rules_at.Goals as goal
+
+pub loop-left-init : goal.loop-left-init
+loop-left-init c = (0, row_begin _ _ _ _ _)
+
+pub bounds-seen-attention : goal.bounds-seen-attention
+bounds-seen-attention c =
+    let h = rule_few c.args.s.now c.loop-left.invariant.1.before c.loop-left.place (sym (ap byte_parsed c.in-Byte.is) ∙ c.rule_at-i.ensures _ c.loop-left.invariant.1.marks) in
+    omega (arith, h, c.loop-left.invariant.1.sized)
+
+pub returns-in-Refused : goal.returns-in-Refused
+returns-in-Refused c =
+    row_refused _ _ c.loop-left.invariant.1 (sym (ap byte_parsed c.in-Refused.is) ∙ c.rule_at-i.ensures _ c.loop-left.invariant.1.marks) c.loop-left-test.true
+
+pub loop-left-preserved : goal.loop-left-preserved
+loop-left-preserved c =
+    (c.loop-left.invariant.0 + 1, row_next _ _ c.loop-left.invariant.1 (sym (ap byte_parsed c.in-Byte.is) ∙ c.rule_at-i.ensures _ c.loop-left.invariant.1.marks) c.loop-left-test.true (rule_few _ c.loop-left.invariant.1.before _ (sym (ap byte_parsed c.in-Byte.is) ∙ c.rule_at-i.ensures _ c.loop-left.invariant.1.marks)))
+
+pub returns : goal.returns
+returns c = row_last _ _ c.loop-left.invariant.1 c.loop-left-test.false

@@ -1,0 +1,10 @@
+-- The invariant: there is no register from the record `left` to the record n. The measure is how many records are left.
+use native.Mathlib.Omega.{arith}
+use Rattle.packing.proofs.NearLaws.{Gone, gone_none, gone_next, near_found, near_none}
+use Rattle.packing.proofs.look_back.Given as goal
+
+abbrev pub invariant-loop-left : goal.invariant-loop-left
+invariant-loop-left l = Gone l.records l.start l.n l.left
+
+abbrev pub decreases-loop-left : goal.decreases-loop-left
+decreases-loop-left l = l.left

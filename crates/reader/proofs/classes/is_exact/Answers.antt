@@ -1,0 +1,14 @@
+use mathlib.Core.Bool.{not}
+use mathlib.Core.Path.{sym, ◌∙◌, ap}
+use lib.Dec.{eqb}
+use borrow.Author.Rules.{rules}
+use Rattle.reader.specs.Classes.{is_exact}
+use Rattle.reader.proofs.classes.is_exact.Goals as goal
+
+pub returns-in-Done : goal.returns-in-Done
+unfolding is_exact
+returns-in-Done c = sym (ap is_exact c.in-Done.is)
+
+pub returns-in-Refused : goal.returns-in-Refused
+unfolding is_exact
+returns-in-Refused c = ap (λ n. not (eqb n 43)) c.number.ensures ∙ sym (ap is_exact c.in-Refused.is)

@@ -1,0 +1,64 @@
+use mathlib.Core.Bool.{true}
+use mathlib.Core.List.{[], ◌∷◌}
+use mathlib.Core.Path.{refl, sym, ◌∙◌, ap}
+use native.Mathlib.Omega.{arith}
+use borrow.Author.Rules.{rules}
+use Rattle.format.specs.Parsed.{row_at}
+use Rattle.format.specs.RegisterLayout.{register_instance_at}
+use Rattle.format.proofs.GatheredLaws.{gathered_each}
+use Rattle.fields.specs.Views.{byte_parsed}
+use Rattle.fields.proofs.RowLaws.{Row, row_begin, row_next, row_last, row_refused}
+use Rattle.registers.specs.Registers.{register_number}
+use Rattle.registers.proofs.RegisterLaws.{instance-room}
+use Rattle.index.specs.Rows.{filled, row_of, pair}
+use Rattle.index.proofs.Again.{unmade}
+use Rattle.index.proofs.FillingLaws.{Sized, sized_put, Filling, filling_begin, filling_next, filling_end, instance_put}
+use Rattle.register_rows.proofs.RisingLaws.{register_instance_is}
+use Rattle.register_rows.proofs.marked_at.Goals as goal
+
+pub loop-left-init : goal.loop-left-init
+loop-left-init c = (row_begin _ _ _ _ _, record { keys = refl; kinds = refl; places = refl }, filling_begin _ _ _ _ _ _ _ tt)
+
+pub bounds-seen-number : goal.bounds-seen-number
+bounds-seen-number c = omega arith
+
+pub shape_of-keys-in-Refused : goal.shape_of-keys-in-Refused
+shape_of-keys-in-Refused c = c.loop-left.invariant.1.keys
+
+pub shape_of-kinds-in-Refused : goal.shape_of-kinds-in-Refused
+shape_of-kinds-in-Refused c = c.loop-left.invariant.1.kinds
+
+pub returns-in-Refused : goal.returns-in-Refused
+returns-in-Refused c =
+    let e = row_refused _ _ c.loop-left.invariant.0 (sym (ap byte_parsed c.in-Refused.is) ∙ c.register_instance_at-i.ensures _ _ c.loop-left.invariant.0.marks c.loop-left.invariant.0.counted) c.loop-left-test.true in
+    record {
+      result_value = e;
+      kinds_after = λ is m d. unmade _ e d;
+    }
+
+pub overflow_add-begun : goal.overflow_add-begun
+overflow_add-begun c =
+    let h = instance-room _ register_number _ _ _ c.loop-left.invariant.0.before _ (sym (ap byte_parsed c.in-Byte.is) ∙ c.register_instance_at-i.ensures _ _ c.loop-left.invariant.0.marks c.loop-left.invariant.0.counted) in
+    omega (arith, h, c.loop-left.invariant.0.counted)
+
+pub loop-left-preserved : goal.loop-left-preserved
+loop-left-preserved c =
+    let z = sym (ap byte_parsed c.in-Byte.is) ∙ c.register_instance_at-i.ensures _ _ c.loop-left.invariant.0.marks c.loop-left.invariant.0.counted in
+    let i = register_instance_is _ _ _ _ _ c.loop-left.invariant.0.before z in
+    let e = c.put_pair.ensures i.0 in (
+      row_next _ _ c.loop-left.invariant.0 z c.loop-left-test.true (omega arith),
+      sized_put _ _ _ _ c.loop-left.invariant.1 e,
+      filling_next _ _ _ c.loop-left.invariant.2 c.loop-left-test.true (λ before a m g q. instance_put _ _ _ _ a.number a.place (i.1 before a m q) c.key.ensures e),
+    )
+
+pub shape_of-keys : goal.shape_of-keys
+shape_of-keys c = c.loop-left.invariant.1.keys
+
+pub shape_of-kinds : goal.shape_of-kinds
+shape_of-kinds c = c.loop-left.invariant.1.kinds
+
+pub returns : goal.returns
+returns c = record {
+  result_value = row_last _ _ c.loop-left.invariant.0 c.loop-left-test.false;
+  kinds_after = λ is m e. (filling_end _ _ _ c.loop-left.invariant.2 c.loop-left-test.false is m e).1 ∙ ap (filled _ _) (gathered_each _ is);
+}

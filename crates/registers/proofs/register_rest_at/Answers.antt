@@ -1,0 +1,10 @@
+use borrow.Author.Rules.{rules}
+use Rattle.fields.proofs.Steps.{steps}
+use Rattle.registers.specs.Registers.{register_rest_at}
+use Rattle.registers.proofs.register_rest_at.Goals as goal
+
+pub returns-in-Byte : goal.returns-in-Byte
+returns-in-Byte c = search steps
+
+pub returns-in-Refused : goal.returns-in-Refused
+returns-in-Refused c = search steps

@@ -1,0 +1,18 @@
+use mathlib.Core.Path.{refl}
+use native.Mathlib.Omega.{arith}
+use Rattle.report.specs.Report.{station_list, report}
+use Rattle.report.proofs.ListLaws.{answer_room, answer_text}
+use Rattle.report.proofs.TextLaws.{put_as, put_none}
+use borrow.Author.Rules.{rules}
+use Rattle.report.proofs.report_short.Goals as goal
+
+pub returns-then-lacks_room : goal.returns-then-lacks_room
+returns-then-lacks_room c = (λ h. absurd (omega arith), (λ e. refl, omega arith))
+
+pub put_answer-requires : goal.put_answer-requires
+put_answer-requires c = answer_room _ _ _ 2048 c.isolate_file-a.result c.isolate_file-a.new.1.1.1.0 c.isolate_file-a.ensures (omega arith) c.list-2-1.given
+
+pub returns : goal.returns
+unfolding report station_list
+returns c =
+    (λ h. put_as c.put_answer.ensures.put (answer_text _ _ _ 2048 c.isolate_file-a.result c.isolate_file-a.new.1.1.1.0 c.isolate_file-a.ensures (λ i. (c.type_inv.file i).fits) 65536 (omega arith) c.lacks_room.ensures c.if-lacks_room.false), (λ e. put_none c.put_answer.ensures.put e, c.put_answer.ensures.upper_bound))

@@ -1,0 +1,12 @@
+-- The measure is how many instances are left. The buffer keeps its length.
+use Prim.Native.Nat.{◌-◌}
+use mathlib.Core.Path.{◌≡◌}
+use lib.ListN.{length}
+use borrow.Author.Rules.{rules}
+use Rattle.samples.proofs.build.put_register.Given as goal
+
+abbrev pub invariant-loop-i : goal.invariant-loop-i
+invariant-loop-i l = length l.file ≡ length l.initial.file
+
+abbrev pub decreases-loop-i : goal.decreases-loop-i
+decreases-loop-i l = l.instances - l.i

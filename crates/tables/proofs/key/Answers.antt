@@ -1,0 +1,8 @@
+use mathlib.Core.Path.{refl}
+use borrow.Author.Rules.{rules}
+use Rattle.tables.specs.Tables.{key_of}
+use Rattle.tables.proofs.key.Goals as goal
+
+pub returns : goal.returns
+unfolding key_of
+returns c = refl

@@ -1,0 +1,15 @@
+-- The invariant: the places passed hold positions before p.
+use Prim.Native.Nat.{◌-◌, ◌≤◌}
+use mathlib.Core.Logic.{inl, inr}
+use native.Mathlib.Omega.{arith}
+use borrow.Author.Rules.{rules}
+use lib.ListN.{length}
+use Rattle.tables.specs.Indexed.{TakenFrom}
+use Rattle.tables.proofs.IndexedLaws.{taken_more}
+use Rattle.tables.proofs.positions.free_from.Given as goal
+
+abbrev pub invariant-loop-at : goal.invariant-loop-at
+invariant-loop-at l = (l.from ≤ l.at) × TakenFrom l.index l.from l.at l.p
+
+abbrev pub decreases-loop-at : goal.decreases-loop-at
+decreases-loop-at l = length l.index - l.at

@@ -1,0 +1,5 @@
+use borrow.Author.Rules.{rules}
+use Rattle.unpacking.proofs.registers_left.Goals as goal
+
+pub returns : goal.returns
+returns c = cc

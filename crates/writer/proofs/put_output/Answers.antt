@@ -1,0 +1,9 @@
+use Rattle.writer.proofs.CopyLaws.{too_short, fits_in}
+use borrow.Author.Rules.{rules}
+use Rattle.writer.proofs.put_output.Goals as goal
+
+pub returns-then-out-n : goal.returns-then-out-n
+returns-then-out-n c = too_short _ _ c.if-out-n.true
+
+pub returns : goal.returns
+returns c = fits_in _ _ c.if-out-n.false c.copy.ensures
