@@ -12,9 +12,9 @@ use Rattle.node_pass.proofs.nodes_pass.Given as goal
 
 abbrev pub invariant-loop-left : goal.invariant-loop-left
 invariant-loop-left l =
-    Sized (record { l.keys = l.initial.names; l.kinds = l.initial.wanted; l.places = l.initial.places }) (record { l.keys = l.names; l.kinds = l.wanted; l.places = l.places }) × (length l.children ≡ length l.initial.children) × (l.total ≤ l.limit)
+    Sized (record { keys = l.initial.names; kinds = l.initial.wanted; places = l.initial.places }) (record { keys = l.names; kinds = l.wanted; places = l.places }) × (length l.children ≡ length l.initial.children) × (l.total ≤ l.limit)
     × (IndexOf l.index l.keys
-    → Nodes l.limit l.s l.keys l.kinds l.n l.at (record { l.keys = l.initial.names; l.kinds = l.initial.wanted; l.places = l.initial.places }) l.initial.children (record { l.keys = l.names; l.kinds = l.wanted; l.places = l.places }) l.children l.bound l.fits l.total l.left l.place)
+    → Nodes l.limit l.s l.keys l.kinds l.n l.at (record { keys = l.initial.names; kinds = l.initial.wanted; places = l.initial.places }) l.initial.children (record { keys = l.names; kinds = l.wanted; places = l.places }) l.children l.bound l.fits l.total l.left l.place)
 
 abbrev pub decreases-loop-left : goal.decreases-loop-left
 decreases-loop-left l = l.left

@@ -19,9 +19,9 @@ use Rattle.index.proofs.node_rows.instances_at.Given as goal
 abbrev pub invariant-loop-left : goal.invariant-loop-left
 invariant-loop-left l =
     Row (node_instance_at l.limit l.s true l.total) node_number (row_at (node_instance_at l.limit l.s true l.total) l.count [] l.at) l.total l.begun l.seen l.left l.place
-    × Sized (record { l.keys = l.initial.keys; l.kinds = l.initial.kinds; l.places = l.initial.places }) (record { l.keys = l.keys; l.kinds = l.kinds; l.places = l.places })
+    × Sized (record { keys = l.initial.keys; kinds = l.initial.kinds; places = l.initial.places }) (record { keys = l.keys; kinds = l.kinds; places = l.places })
     × Filling (node_instance_at l.limit l.s true l.total) (λ i. row_of l.id l.code i.number i.place ∷ []) (λ b x. Unit {0}) (row_at (node_instance_at l.limit l.s true l.total) l.count [] l.at)
-    (record { l.keys = l.initial.keys; l.kinds = l.initial.kinds; l.places = l.initial.places }) l.total (record { l.keys = l.keys; l.kinds = l.kinds; l.places = l.places }) l.begun l.left l.place
+    (record { keys = l.initial.keys; kinds = l.initial.kinds; places = l.initial.places }) l.total (record { keys = l.keys; kinds = l.kinds; places = l.places }) l.begun l.left l.place
 
 abbrev pub decreases-loop-left : goal.decreases-loop-left
 decreases-loop-left l = l.left

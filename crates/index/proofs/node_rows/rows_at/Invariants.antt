@@ -27,9 +27,9 @@ use Rattle.index.proofs.node_rows.rows_at.Given as goal
 abbrev pub invariant-loop-left : goal.invariant-loop-left
 invariant-loop-left l =
     (length l.ids ≡ library_limits.node_instances) × (length l.index ≡ places_for library_limits.node_instances) × (l.known ≤ l.total) × (l.total ≤ library_limits.node_instances) × Elements (node_at l.limit l.s true) node_id node_total (row_at (node_at l.limit l.s true) l.n [] l.at) l.ids l.index l.known l.entered l.largest l.total l.left l.place
-    × Sized (record { l.keys = l.initial.keys; l.kinds = l.initial.kinds; l.places = l.initial.places }) (record { l.keys = l.keys; l.kinds = l.kinds; l.places = l.places })
+    × Sized (record { keys = l.initial.keys; kinds = l.initial.kinds; places = l.initial.places }) (record { keys = l.keys; kinds = l.kinds; places = l.places })
     × Filling (node_at l.limit l.s true) (λ r. map node_row (node_entries_of r)) (λ before j. j ≡ node_total before) (row_at (node_at l.limit l.s true) l.n [] l.at)
-    (record { l.keys = l.initial.keys; l.kinds = l.initial.kinds; l.places = l.initial.places }) 0 (record { l.keys = l.keys; l.kinds = l.kinds; l.places = l.places }) l.total l.left l.place
+    (record { keys = l.initial.keys; kinds = l.initial.kinds; places = l.initial.places }) 0 (record { keys = l.keys; kinds = l.kinds; places = l.places }) l.total l.left l.place
     × (l.limit ≤ library_limits.node_instances)
 
 abbrev pub decreases-loop-left : goal.decreases-loop-left

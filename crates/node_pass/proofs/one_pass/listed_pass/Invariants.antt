@@ -15,9 +15,9 @@ use Rattle.node_pass.proofs.one_pass.listed_pass.Given as goal
 
 abbrev pub invariant-loop-left : goal.invariant-loop-left
 invariant-loop-left l =
-    (length l.ids ≡ library_limits.node_instances) × (length l.id_index ≡ places_for library_limits.node_instances) × Sized (record { l.keys = l.initial.names; l.kinds = l.initial.wanted; l.places = l.initial.places }) (record { l.keys = l.names; l.kinds = l.wanted; l.places = l.places })
+    (length l.ids ≡ library_limits.node_instances) × (length l.id_index ≡ places_for library_limits.node_instances) × Sized (record { keys = l.initial.names; kinds = l.initial.wanted; places = l.initial.places }) (record { keys = l.names; kinds = l.wanted; places = l.places })
     × (length l.children ≡ length l.initial.children) × (l.known ≤ l.total) × (l.total ≤ l.limit) × (l.limit ≤ library_limits.node_instances)
-    × Listed (IndexOf l.index l.keys) l.limit l.s l.keys l.kinds l.n l.at (record { l.keys = l.initial.names; l.kinds = l.initial.wanted; l.places = l.initial.places }) l.initial.children l.ids l.id_index l.known l.entered l.largest (record { l.keys = l.names; l.kinds = l.wanted; l.places = l.places }) l.children l.fits l.total l.left l.place
+    × Listed (IndexOf l.index l.keys) l.limit l.s l.keys l.kinds l.n l.at (record { keys = l.initial.names; kinds = l.initial.wanted; places = l.initial.places }) l.initial.children l.ids l.id_index l.known l.entered l.largest (record { keys = l.names; kinds = l.wanted; places = l.places }) l.children l.fits l.total l.left l.place
 
 abbrev pub decreases-loop-left : goal.decreases-loop-left
 decreases-loop-left l = l.left
