@@ -9,10 +9,6 @@ use Rattle.walk.proofs.Step.{state_marks, state_words}
 use Rattle.walk.proofs.RunLaws.{run_counted, run_nowhere, run_start, run_ready, run_step, run_end}
 use Rattle.walk.proofs.run.Goals as goal
 
-pub returns-then-n-root : goal.returns-then-n-root
-returns-then-n-root c =
-    run_counted _ _ _ (run_nowhere _ _ _ _ c.size-n.ensures c.if-n-root.true (state_marks c.start-w.ensures))
-
 pub loop-w-init : goal.loop-w-init
 loop-w-init c =
     (run_start _ _ _ _ c.size-n.ensures c.if-n-root.false (state_marks c.start-w.ensures), state_words _ c.start-w.ensures)
@@ -35,6 +31,13 @@ loop-w-preserved c =
       state_words _ s,
     )
 
+
+pub returns-then-n-root : goal.returns-then-n-root
+returns-then-n-root c =
+    let r = run_counted _ _ _ (run_nowhere _ _ _ _ c.size-n.ensures c.if-n-root.true (state_marks c.start-w.ensures)) in
+    record { value = r.0; step_count = r.1 }
+
 pub returns : goal.returns
 returns c =
-    run_counted _ _ _ (run_end _ _ _ _ c.size-n.ensures c.if-n-root.false c.loop-w.invariant.0 (c.waiting.ensures c.loop-w.invariant.1) c.loop-w-test.false)
+    let r = run_counted _ _ _ (run_end _ _ _ _ c.size-n.ensures c.if-n-root.false c.loop-w.invariant.0 (c.waiting.ensures c.loop-w.invariant.1) c.loop-w-test.false) in
+    record { value = r.0; step_count = r.1 }
