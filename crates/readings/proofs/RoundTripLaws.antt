@@ -74,11 +74,11 @@ pub record Back (keys words read : List ℕ) : Type 0 where
   pub size : length (key_file keys words read) ≡ 16 * length keys
   pub records : records_fit keys (key_file keys words read) ≡ true
   pub words_back : words_of keys (key_file keys words read) ≡ words
-  pub read-back : read_of keys (key_file keys words read) ≡ read
+  pub read_back : read_of keys (key_file keys words read) ≡ read
 
 back : (keys words read : List ℕ) → Every (λ k. k < 256 ^ 4) keys → Holdable (length keys) words read → Back keys words read
 unfolding key_file file_of records_fit each_record Every
-back [] [] [] s h = record { size = refl; records = refl; words_back = refl; read-back = refl }
+back [] [] [] s h = record { size = refl; records = refl; words_back = refl; read_back = refl }
 back [] (w ∷ words) read s h = absurd (omega (arith, h.words_many))
 back [] [] (r ∷ read) s h = absurd (omega (arith, h.read_many))
 back (k ∷ keys) [] read s h = absurd (omega (arith, h.words_many))
@@ -93,7 +93,7 @@ back (k ∷ keys) (w ∷ words) (r ∷ read) s h =
       size = omega (arith, record-length k r w rest, b.size);
       records = and_both (fits_in k _ f) (rw (record_rest k r w rest) b.records);
       words_back = rw (record_value k r w rest hw, record_rest k r w rest, b.words_back);
-      read-back = rw (record-byte k r w rest (omega arith), record_rest k r w rest, b.read_back);
+      read_back = rw (record-byte k r w rest (omega arith), record_rest k r w rest, b.read_back);
     }
 
 module _ (keys words read : List ℕ) (small : Every (λ k. k < 256 ^ 4) keys) (h : Holdable (length keys) words read) where
