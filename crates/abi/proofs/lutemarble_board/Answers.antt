@@ -7,9 +7,11 @@ use Rattle.abi.proofs.lutemarble_board.Goals as goal
 pub returns-in-Done : goal.returns-in-Done
 returns-in-Done c =
     let e = board_outcome_as _ c.in-Done.is c.board-b.ensures in
-    (ap (λ o. o.answer.number) e, (ap (λ o. o.answer.list) e, answered_as board_list _ e c.put_five.ensures))
+    let the = (ap (λ o. o.answer.number) e, (ap (λ o. o.answer.list) e, answered_as board_list _ e c.put_five.ensures)) in
+    record { number = the.0; list = the.1; answer = the.2 }
 
 pub returns-in-Refused : goal.returns-in-Refused
 returns-in-Refused c =
     let e = board_outcome_as _ c.in-Refused.is c.board-b.ensures in
-    (c.number-n.ensures ∙ ap (λ o. o.answer.number) e, (ap (λ o. o.answer.list) e, answered_as board_list _ e (c.put_five-in-Refused.ensures ∙ refused_five _ _ _ c.number-n.ensures)))
+    let the = (c.number-n.ensures ∙ ap (λ o. o.answer.number) e, (ap (λ o. o.answer.list) e, answered_as board_list _ e (c.put_five-in-Refused.ensures ∙ refused_five _ _ _ c.number-n.ensures))) in
+    record { number = the.0; list = the.1; answer = the.2 }

@@ -7,9 +7,11 @@ use Rattle.abi.proofs.lutemarble_write.Goals as goal
 pub returns-in-Written : goal.returns-in-Written
 returns-in-Written c =
     let e = answer_as _ c.in-Written.is c.write-w.ensures in
-    (ap (λ o. o.number) e, (ap (λ o. o.output) e, answered_as output_list _ e c.put_three.ensures))
+    let the = (ap (λ o. o.number) e, (ap (λ o. o.output) e, answered_as output_list _ e c.put_three.ensures)) in
+    record { number = the.0; file = the.1; answer = the.2 }
 
 pub returns-in-Refused : goal.returns-in-Refused
 returns-in-Refused c =
     let e = answer_as _ c.in-Refused.is c.write-w.ensures in
-    (c.number-n.ensures ∙ ap (λ o. o.number) e, (ap (λ o. o.output) e, answered_as output_list _ e (c.put_three-in-Refused.ensures ∙ refused_three _ _ c.number-n.ensures)))
+    let the = (c.number-n.ensures ∙ ap (λ o. o.number) e, (ap (λ o. o.output) e, answered_as output_list _ e (c.put_three-in-Refused.ensures ∙ refused_three _ _ c.number-n.ensures))) in
+    record { number = the.0; file = the.1; answer = the.2 }

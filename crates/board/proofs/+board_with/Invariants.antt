@@ -6,6 +6,5 @@ use Rattle.limits.specs.Limits.{library_limits}
 use Rattle.board.specs.Board.{board_of, slots_of, join, in_board_list}
 use Rattle.board.proofs.+board_with.Given as goal
 
--- MEASURE abbrev μ-board-with : Measures 7 board-with-kinds.ps ℕ μ-board-with κs a = a.1.1.1.1.1.1.1.1.0
 abbrev pub decreases-board_with : goal.decreases-board_with
-decreases-board_with l = ?
+decreases-board_with l = l.larger

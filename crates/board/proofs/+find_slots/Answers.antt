@@ -35,7 +35,9 @@ module _ (t : ℕ) (s : Entry t) (some : length s.args.file-lengths.now ≡ 0 �
 
 pub returns-then-file_lengths-eq0 : goal.returns-then-file_lengths-eq0
 unfolding is_gathered
-returns-then-file_lengths-eq0 t c = (λ h. no_slots _ _ _ _ _ _ _ _ _ _ c.if-file_lengths-eq0.true, (λ p q. refl, (omega arith, omega arith, omega arith, omega arith)))
+returns-then-file_lengths-eq0 t c =
+    let the = (λ h. no_slots _ _ _ _ _ _ _ _ _ _ c.if-file_lengths-eq0.true, (λ p q. refl, (omega arith, omega arith, omega arith, omega arith))) in
+    record { exact = the.0; enough = the.1; within = the.2 }
 
 pub bounds-file_lengths-0 : goal.bounds-file_lengths-0
 bounds-file_lengths-0 t c = omega (arith, one-file t c c.if-file_lengths-eq0.false)
@@ -203,7 +205,8 @@ returns-in-Rows-t t c =
     let in-read = read-within t c c.if-file_lengths-eq0.false in
     let others = others-few t c c.if-file_lengths-eq0.false in
     let w = within_rows c.args.heads.now c.args.rows.now c.in-Rows.is c.find-s.ensures.enough.1 in
-    let g = gathered_rows (length (mid_of 1 (length c.args.file-lengths.now - 1) c.args.file-lengths.now)) _ _ c.in-Rows-t.is c.find_slots-t.ensures.enough.1 in (
+    let g = gathered_rows (length (mid_of 1 (length c.args.file-lengths.now - 1) c.args.file-lengths.now)) _ _ c.in-Rows-t.is c.find_slots-t.ensures.enough.1 in
+    let the = (
       λ h.
           put_joined c.args.attention _ c.find-s.new.1.1.1.1.1.0 c.find-s.new.1.1.1.1.1.1.0 c.find_slots-t.new.1.1.1.1.1.1.1.1.0 c.find_slots-t.new.1.1.1.1.1.1.1.1.1.0 c.in-Rows.x.rows (omega (arith, w.1, c.heads-1.given)) (omega (arith, w.2, c.rows-1.given))
           (later_joined c.args.attention c.args.slot c.args.file-lengths.now c.args.word-lengths.now c.args.read-lengths.now c.args.files.now c.args.words.now c.args.read.now one c.requires.word_lengths_len.1.0 c.requires.word_lengths_len.1.1 c.find-s.new.1.1.1.1.1.0 c.find-s.new.1.1.1.1.1.1.0 c.in-Rows.is c.find-s.ensures.exact c.find_slots-t.new.1.1.1.1.1.1.1.1.0 c.find_slots-t.new.1.1.1.1.1.1.1.1.1.0 (omega (arith, w.1, c.heads-1.given)) (omega (arith, w.2, c.rows-1.given)) c.in-Rows-t.is
@@ -217,7 +220,8 @@ returns-in-Rows-t t c =
           omega (arith, first_steps c.args.attention c.args.slot c.args.file-lengths.now c.args.word-lengths.now c.args.read-lengths.now c.args.files.now c.args.words.now c.args.read.now one c.requires.word_lengths_len.1.0 c.requires.word_lengths_len.1.1 c.find-s.new.1.1.1.1.1.0 c.find-s.new.1.1.1.1.1.1.0 c.in-Rows.is c.find-s.ensures.exact (λ i. (c.type_inv.files i).fits), g.3, others),
         ),
       ),
-    )
+    ) in
+    record { exact = the.0; enough = the.1; within = the.2 }
 
 pub shape_of-heads-in-Refused-t : goal.shape_of-heads-in-Refused-t
 shape_of-heads-in-Refused-t t c =
@@ -236,7 +240,8 @@ returns-in-Refused-t t c =
     let in_words_lem = words-within t c c.if-file_lengths-eq0.false in
     let in-read = read-within t c c.if-file_lengths-eq0.false in
     let others = others-few t c c.if-file_lengths-eq0.false in
-    let w = within_rows c.args.heads.now c.args.rows.now c.in-Rows.is c.find-s.ensures.enough.1 in (
+    let w = within_rows c.args.heads.now c.args.rows.now c.in-Rows.is c.find-s.ensures.enough.1 in
+    let the = (
       λ h. later_stopped c.args.attention c.args.slot c.args.file-lengths.now c.args.word-lengths.now c.args.read-lengths.now c.args.files.now c.args.words.now c.args.read.now one c.requires.word_lengths_len.1.0 c.requires.word_lengths_len.1.1 c.find-s.new.1.1.1.1.1.0 c.find-s.new.1.1.1.1.1.1.0 c.in-Rows.is c.find-s.ensures.exact c.find_slots-t.new.1.1.1.1.1.1.1.1.0 c.find_slots-t.new.1.1.1.1.1.1.1.1.1.0 c.find_slots-t.new.1.1.1.1.1.1.1.1.0 c.find_slots-t.new.1.1.1.1.1.1.1.1.1.0 c.in-Refused-t.is (λ h. c.find_slots-t.ensures.exact h ∙ rest_is c.args.attention c.args.slot c.args.file-lengths.now c.args.word-lengths.now c.args.read-lengths.now c.args.files.now c.args.words.now c.args.read.now one c.requires.word_lengths_len.1.0 c.requires.word_lengths_len.1.1 (mid_rest c.args.file-lengths.now 1 one) (mid_rest c.args.word-lengths.now 1 one-w) (mid_rest c.args.read-lengths.now 1 one-r) (mid_rest c.args.files.now _ in-files) (mid_rest c.args.words.now _ in_words_lem) (mid_rest c.args.read.now _ in-read)) h,
       (
         λ p q.
@@ -244,7 +249,8 @@ returns-in-Refused-t t c =
             (c.find_slots-t.ensures.enough.0 (omega (arith, p, w.0, w.1, c.heads-1.given, mid-length c.find-s.new.1.1.1.1.1.0 c.in-Rows.x.rows (omega (arith, w.1, c.heads-1.given)), others)) (omega (arith, q, w.0, w.2, c.rows-1.given, mid-length c.find-s.new.1.1.1.1.1.1.0 c.in-Rows.x.rows (omega (arith, w.2, c.rows-1.given)), others))),
         tt,
       ),
-    )
+    ) in
+    record { exact = the.0; enough = the.1; within = the.2 }
 
 pub shape_of-heads-in-Refused : goal.shape_of-heads-in-Refused
 shape_of-heads-in-Refused t c = c.heads-1.given
@@ -254,7 +260,9 @@ shape_of-rows-in-Refused t c = c.rows-1.given
 
 pub returns-in-Refused : goal.returns-in-Refused
 returns-in-Refused t c =
-    let one = one-file t c c.if-file_lengths-eq0.false in (
+    let one = one-file t c c.if-file_lengths-eq0.false in
+    let the = (
       λ h. slot_stopped c.args.attention c.args.slot c.args.file-lengths.now c.args.word-lengths.now c.args.read-lengths.now c.args.files.now c.args.words.now c.args.read.now one c.requires.word_lengths_len.1.0 c.requires.word_lengths_len.1.1 c.find-s.new.1.1.1.1.1.0 c.find-s.new.1.1.1.1.1.1.0 c.in-Refused.is c.find-s.ensures.exact h,
       (λ p q. stopped_found _ c.in-Refused.is (c.find-s.ensures.enough.0 (omega (arith, p, one)) (omega (arith, q, one))), tt),
-    )
+    ) in
+    record { exact = the.0; enough = the.1; within = the.2 }

@@ -11,6 +11,5 @@ use Rattle.board.proofs.BoardLaws.{most_slots}
 use Rattle.board.proofs.SlotsLaws.{mid_rest, mid-length, first_within, others_total, others-length, at_least_one, no_slots, rest_is, slot_stopped, first_steps, later_stopped, later_joined, gathered_rows, put_joined, stopped_found, stopped-gathered}
 use Rattle.board.proofs.+find_slots.Given as goal
 
--- MEASURE abbrev μ-find-slots : Measures 8 find-slots-kinds.ps ℕ μ-find-slots κs a = length a.1.0.now
 abbrev pub decreases-find_slots : goal.decreases-find_slots
-decreases-find_slots l = ?
+decreases-find_slots l = length l.file_lengths.now

@@ -12,11 +12,11 @@ returns-then-child-end c = row_short _ _ _ _ c.loop-i-test.true c.if-child-end.t
 
 pub returns-then-not-row_backward : goal.returns-then-not-row_backward
 returns-then-not-row_backward c =
-    row-not _ _ _ c.if-child-end.false _ c.loop-i-test.true (sym c.row_backward.ensures ∙ not-true _ c.if-not-row_backward.true)
+    row-not _ _ _ c.if-child-end.false _ c.loop-i-test.true (sym c.row_backward.ensures ∙ c.if-not-row_backward.true)
 
 pub loop-i-preserved : goal.loop-i-preserved
 loop-i-preserved c =
-    (search rules, passed_row _ _ _ c.if-child-end.false c.loop-i.invariant.1 (sym c.row_backward.ensures ∙ not-false _ c.if-not-row_backward.false))
+    (search rules, passed_row _ _ _ c.if-child-end.false c.loop-i.invariant.1 (sym c.row_backward.ensures ∙ c.if-not-row_backward.false))
 
 pub returns : goal.returns
 returns c = passed_all _ _ _ c.loop-i.invariant.1 (omega arith)

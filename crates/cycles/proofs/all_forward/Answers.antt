@@ -12,11 +12,11 @@ returns-then-child-end c = row_short _ _ _ _ c.loop-i-test.true c.if-child-end.t
 
 pub returns-then-not-row_forward : goal.returns-then-not-row_forward
 returns-then-not-row_forward c =
-    row-not _ _ _ c.if-child-end.false _ c.loop-i-test.true (sym c.row_forward.ensures ∙ not-true _ c.if-not-row_forward.true)
+    row-not _ _ _ c.if-child-end.false _ c.loop-i-test.true (sym c.row_forward.ensures ∙ c.if-not-row_forward.true)
 
 pub loop-i-preserved : goal.loop-i-preserved
 loop-i-preserved c =
-    (search rules, passed_row _ _ _ c.if-child-end.false c.loop-i.invariant.1 (sym c.row_forward.ensures ∙ not-false _ c.if-not-row_forward.false))
+    (search rules, passed_row _ _ _ c.if-child-end.false c.loop-i.invariant.1 (sym c.row_forward.ensures ∙ c.if-not-row_forward.false))
 
 pub returns : goal.returns
 returns c = passed_all _ _ _ c.loop-i.invariant.1 (omega arith)

@@ -14,4 +14,4 @@ pub returns-then-not-none_above : goal.returns-then-not-none_above
 returns-then-not-none_above c = (omega arith, λ k h. absurd (omega arith))
 
 pub returns : goal.returns
-returns c = ranks_clear _ _ _ c.first_not_below-k.ensures (c.none_above.ensures (not-false _ c.if-not-none_above.false))
+returns c = ranks_clear _ _ _ c.first_not_below-k.ensures (c.none_above.ensures c.if-not-none_above.false)

@@ -21,6 +21,5 @@ invariant-loop-ahead l =
 abbrev pub decreases-loop-ahead : goal.decreases-loop-ahead
 decreases-loop-ahead l = l.ahead
 
--- MEASURE abbrev μ-value-at : Measures 5 value-at-kinds.ps ℕ μ-value-at κs a = a.1.1.0
 abbrev pub decreases-value_at : goal.decreases-value_at
-decreases-value_at l = ?
+decreases-value_at l = l.levels

@@ -17,6 +17,5 @@ invariant-loop-left l =
 abbrev pub decreases-loop-left : goal.decreases-loop-left
 decreases-loop-left l = l.left
 
--- MEASURE abbrev μ-end-of : Measures 1 end-of-kinds.ps ℕ μ-end-of κs a = a.1.1.0
 abbrev pub decreases-end_of : goal.decreases-end_of
-decreases-end_of l = ?
+decreases-end_of l = l.levels

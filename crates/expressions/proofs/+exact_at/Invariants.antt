@@ -16,6 +16,5 @@ invariant-loop-left l =
 abbrev pub decreases-loop-left : goal.decreases-loop-left
 decreases-loop-left l = l.left
 
--- MEASURE abbrev μ-exact-at : Measures 1 exact-at-kinds.ps ℕ μ-exact-at κs a = a.1.1.0
 abbrev pub decreases-exact_at : goal.decreases-exact_at
-decreases-exact_at l = ?
+decreases-exact_at l = l.levels

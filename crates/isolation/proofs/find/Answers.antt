@@ -2,4 +2,6 @@ use borrow.Author.Rules.{rules}
 use Rattle.isolation.proofs.find.Goals as goal
 
 pub returns : goal.returns
-returns c = c.find_with.ensures
+returns c =
+    let the = c.find_with.ensures in
+    record { exact = the.0; enough = the.1; within = the.2 }

@@ -21,6 +21,5 @@ invariant-loop-left l =
 abbrev pub decreases-loop-left : goal.decreases-loop-left
 decreases-loop-left l = l.left
 
--- MEASURE abbrev μ-first-fault-at : Measures 4 first-fault-at-kinds.ps ℕ μ-first-fault-at κs a = a.1.1.0
 abbrev pub decreases-first_fault_at : goal.decreases-first_fault_at
-decreases-first_fault_at l = ?
+decreases-first_fault_at l = l.levels

@@ -14,6 +14,5 @@ invariant-loop-left l =
 abbrev pub decreases-loop-left : goal.decreases-loop-left
 decreases-loop-left l = l.left
 
--- MEASURE abbrev μ-fit-at : Measures 4 fit-at-kinds.ps ℕ μ-fit-at κs a = a.1.1.0
 abbrev pub decreases-fit_at : goal.decreases-fit_at
-decreases-fit_at l = ?
+decreases-fit_at l = l.levels

@@ -37,11 +37,11 @@ pub returns-in_default : goal.returns-in_default
 unfolding expression_of
 returns-in_default c =
     simp (
-      ne_eqb _ 1 (not_low 1 c.rank_of.ensures c.in_default.rest.0.0.0.0.0.0.1 (lit≤ tt)),
-      ne_eqb _ 2 (not_low 2 c.rank_of.ensures c.in_default.rest.0.0.0.0.0.1 (lit≤ tt)),
-      ne_eqb _ 16 (not_high 3 c.rank_of.ensures c.in_default.rest.0.0.0.0.1 (lit≤ tt)),
-      ne_eqb _ 17 (not_high 4 c.rank_of.ensures c.in_default.rest.0.0.0.1 (lit≤ tt)),
-      ne_eqb _ 18 (not_high 5 c.rank_of.ensures c.in_default.rest.0.0.1 (lit≤ tt)),
-      ne_eqb _ 19 (not_high 6 c.rank_of.ensures c.in_default.rest.0.1 (lit≤ tt)),
-      ne_eqb _ 20 (not_high 7 c.rank_of.ensures c.in_default.rest.1 (lit≤ tt)),
+      ne_eqb _ 1 (not_low 1 c.rank_of.ensures c.in_default.in_default-own.rest.0.0.0.0.0.0.1 (lit≤ tt)),
+      ne_eqb _ 2 (not_low 2 c.rank_of.ensures c.in_default.in_default-own.rest.0.0.0.0.0.1 (lit≤ tt)),
+      ne_eqb _ 16 (not_high 3 c.rank_of.ensures c.in_default.in_default-own.rest.0.0.0.0.1 (lit≤ tt)),
+      ne_eqb _ 17 (not_high 4 c.rank_of.ensures c.in_default.in_default-own.rest.0.0.0.1 (lit≤ tt)),
+      ne_eqb _ 18 (not_high 5 c.rank_of.ensures c.in_default.in_default-own.rest.0.0.1 (lit≤ tt)),
+      ne_eqb _ 19 (not_high 6 c.rank_of.ensures c.in_default.in_default-own.rest.0.1 (lit≤ tt)),
+      ne_eqb _ 20 (not_high 7 c.rank_of.ensures c.in_default.in_default-own.rest.1 (lit≤ tt)),
     )

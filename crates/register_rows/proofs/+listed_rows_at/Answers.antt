@@ -14,7 +14,9 @@ pub all_rows_at-requires : goal.all_rows_at-requires
 all_rows_at-requires t c = c.requires.1
 
 pub returns-then-larger-eq0 : goal.returns-then-larger-eq0
-returns-then-larger-eq0 t c = c.all_rows_at.ensures
+returns-then-larger-eq0 t c =
+    let the = c.all_rows_at.ensures in
+    record { result_value = the.0; kinds_after = the.1 }
 
 pub few_rows_at-c-requires : goal.few_rows_at-c-requires
 few_rows_at-c-requires t c = c.requires.1

@@ -11,6 +11,5 @@ use Rattle.index.specs.Rows.{filled, register_row}
 use Rattle.register_rows.proofs.ListedLaws.{told_room, untold_over}
 use Rattle.register_rows.proofs.+listed_rows_at.Given as goal
 
--- MEASURE abbrev μ-listed-rows-at : Measures 3 listed-rows-at-kinds.ps ℕ μ-listed-rows-at κs a = a.1.1.1.1.1.1.0
 abbrev pub decreases-listed_rows_at : goal.decreases-listed_rows_at
-decreases-listed_rows_at l = ?
+decreases-listed_rows_at l = l.larger

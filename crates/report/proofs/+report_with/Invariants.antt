@@ -5,6 +5,5 @@ use borrow.Author.Rules.{rules}
 use Rattle.report.proofs.TextLaws.{put_from}
 use Rattle.report.proofs.+report_with.Given as goal
 
--- MEASURE abbrev μ-report-with : Measures 3 report-with-kinds.ps ℕ μ-report-with κs a = a.1.1.1.1.0
 abbrev pub decreases-report_with : goal.decreases-report_with
-decreases-report_with l = ?
+decreases-report_with l = l.larger

@@ -2,4 +2,6 @@ use borrow.Author.Rules.{rules}
 use Rattle.report.proofs.report.Goals as goal
 
 pub returns : goal.returns
-returns c = c.report_with.ensures
+returns c =
+    let the = c.report_with.ensures in
+    record { put = the.0; upper_bound = the.1 }

@@ -9,7 +9,7 @@ pub loop-turns-init : goal.loop-turns-init
 loop-turns-init c = going_start _ _ _
 
 pub returns-then-not-known : goal.returns-then-not-known
-returns-then-not-known c = going_stop _ _ _ c.loop-turns.invariant c.element_next-e.ensures (sym c.known.ensures ∙ not-true _ c.if-not-known.true)
+returns-then-not-known c = going_stop _ _ _ c.loop-turns.invariant c.element_next-e.ensures (sym c.known.ensures ∙ c.if-not-known.true)
 
 pub left_next-left-requires : goal.left_next-left-requires
 left_next-left-requires c =
@@ -32,7 +32,7 @@ overflow_add-count c = omega (arith, c.loop-turns.invariant.all, c.requires.0)
 
 pub loop-turns-preserved : goal.loop-turns-preserved
 loop-turns-preserved c =
-    going_next c.args.s.now _ _ (λ i. omega (arith, c.type_inv.s i)) c.loop-turns.invariant c.loop-turns-test.true c.element_next-e.ensures (sym c.known.ensures ∙ not-false _ c.if-not-known.false) c.address_size.ensures c.own_size-size.ensures
+    going_next c.args.s.now _ _ (λ i. omega (arith, c.type_inv.s i)) c.loop-turns.invariant c.loop-turns-test.true c.element_next-e.ensures (sym c.known.ensures ∙ c.if-not-known.false) c.address_size.ensures c.own_size-size.ensures
     c.left_next-left.ensures
 
 pub returns : goal.returns

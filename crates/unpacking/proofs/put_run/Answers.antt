@@ -14,7 +14,7 @@ shape_of-out-then-not-known c = c.loop-turns.invariant.2
 
 pub returns-then-not-known : goal.returns-then-not-known
 returns-then-not-known c =
-    let t = sym c.known.ensures ∙ not-true _ c.if-not-known.true in
+    let t = sym c.known.ensures ∙ c.if-not-known.true in
     record {
       value = going_stop _ _ _ c.loop-turns.invariant.0 c.element_next-e.ensures t;
       out_after = putting_stop _ _ _ _ _ c.loop-turns.invariant.1 c.element_next-e.ensures t;
@@ -54,7 +54,7 @@ overflow_add-count c =
 
 pub loop-turns-preserved : goal.loop-turns-preserved
 loop-turns-preserved c =
-    let t = sym c.known.ensures ∙ not-false _ c.if-not-known.false in (
+    let t = sym c.known.ensures ∙ c.if-not-known.false in (
       going_next c.args.s.now _ _ (λ j. omega (arith, c.type_inv.s j)) c.loop-turns.invariant.0 c.loop-turns-test.true c.element_next-e.ensures t
           c.address_size.ensures c.own_size-size.ensures c.left_next-left.ensures,
       putting_next _ _ _ _ _ c.loop-turns.invariant.1 c.loop-turns-test.true c.element_next-e.ensures t c.record_next.ensures c.put_record.ensures c.address_size.ensures c.own_size-size.ensures

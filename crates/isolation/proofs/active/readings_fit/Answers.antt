@@ -9,4 +9,4 @@ pub returns-then-read-m : goal.returns-then-read-m
 returns-then-read-m c = read_other _ _ _ c.if-words-m.false c.if-read-m.true
 
 pub returns : goal.returns
-returns c = both-fit _ _ _ c.if-words-m.false c.if-read-m.false c.all_Known.ensures
+returns c = both-fit _ _ _ c.if-words-m.false c.if-read-m.false c.all_known.ensures

@@ -10,6 +10,5 @@ use Rattle.isolation.specs.Rows.{lent_room}
 use Rattle.isolation.proofs.FoundLaws.{within_same, class_exact, full_enough}
 use Rattle.isolation.proofs.classes.+find_with.Given as goal
 
--- MEASURE abbrev μ-find-with : Measures 5 find-with-kinds.ps ℕ μ-find-with κs a = a.1.1.1.1.1.1.1.0
 abbrev pub decreases-find_with : goal.decreases-find_with
-decreases-find_with l = ?
+decreases-find_with l = l.larger

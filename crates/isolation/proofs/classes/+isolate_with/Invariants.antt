@@ -8,6 +8,5 @@ use Rattle.isolation.specs.Outcome.{isolate}
 use Rattle.isolation.proofs.ClassesLaws.{class_exact, class_kept, isolate_number, full_outcome}
 use Rattle.isolation.proofs.classes.+isolate_with.Given as goal
 
--- MEASURE abbrev μ-isolate-with : Measures 4 isolate-with-kinds.ps ℕ μ-isolate-with κs a = a.1.1.1.1.1.0
 abbrev pub decreases-isolate_with : goal.decreases-isolate_with
-decreases-isolate_with l = ?
+decreases-isolate_with l = l.larger

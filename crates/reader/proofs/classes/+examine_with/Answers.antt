@@ -16,9 +16,10 @@ returns-then-larger-eq0 t c = record {
 pub returns-then-is_exact : goal.returns-then-is_exact
 returns-then-is_exact t c =
     let h = sym c.is_exact.ensures ∙ c.if-is_exact.true in
-    ⊎_elim (λ x. class_told _ _ _ x.1.ensures x.2 h)
+    let the = ⊎_elim (λ x. class_told _ _ _ x.1.ensures x.2 h)
     (λ y. ⊎_elim (λ x. class_told _ _ _ x.1.ensures x.2 h) (λ x. class_told _ _ _ x.1.ensures x.2 h) y)
-    c.match-larger.branch
+    c.match-larger.branch in
+    record { result_value = the.0; result_value_2 = the.1 }
 
 pub overflow_sub-larger : goal.overflow_sub-larger
 overflow_sub-larger t c = omega arith
@@ -27,4 +28,6 @@ pub examine_with-requires : goal.examine_with-requires
 examine_with-requires t c = (omega arith, tt)
 
 pub returns : goal.returns
-returns t c = c.examine_with.ensures
+returns t c =
+    let the = c.examine_with.ensures in
+    record { result_value = the.0; result_value_2 = the.1 }

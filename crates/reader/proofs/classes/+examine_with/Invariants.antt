@@ -8,6 +8,5 @@ use Rattle.limits.specs.Classes.{full}
 use Rattle.reader.proofs.ClassesLaws.{class_told, full_exact}
 use Rattle.reader.proofs.classes.+examine_with.Given as goal
 
--- MEASURE abbrev μ-examine-with : Measures 1 examine-with-kinds.ps ℕ μ-examine-with κs a = a.1.0
 abbrev pub decreases-examine_with : goal.decreases-examine_with
-decreases-examine_with l = ?
+decreases-examine_with l = l.larger

@@ -8,7 +8,7 @@ use Rattle.records.proofs.grammar.is_instance.Goals as goal
 
 pub returns-then-form-eq1 : goal.returns-then-form-eq1
 unfolding address_size
-returns-then-form-eq1 c = rw c.if-form-eq1.true (c.is_Within.ensures ∙ within_used 0 0 255 0 4294967295 (wide 0 0 1 0 4) _ refl refl refl refl refl)
+returns-then-form-eq1 c = rw c.if-form-eq1.true (c.is_within.ensures ∙ within_used 0 0 255 0 4294967295 (wide 0 0 1 0 4) _ refl refl refl refl refl)
 
 pub returns : goal.returns
 unfolding address_size

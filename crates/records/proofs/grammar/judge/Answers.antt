@@ -30,7 +30,7 @@ pub not_allowed-requires : goal.not_allowed-requires
 not_allowed-requires c = tt
 
 pub returns-then-not-is_allowed : goal.returns-then-not-is_allowed
-returns-then-not-is_allowed c = c.not_allowed.ensures ∙ sym (c.loop-left.invariant.0 ∙ judge_refuses _ _ _ _ c.record_at-r.ensures c.element_of-e.ensures c.is_allowed.ensures c.loop-left-test.true c.loop-left.invariant.1 (not-true _ c.if-not-is_allowed.true))
+returns-then-not-is_allowed c = c.not_allowed.ensures ∙ sym (c.loop-left.invariant.0 ∙ judge_refuses _ _ _ _ c.record_at-r.ensures c.element_of-e.ensures c.is_allowed.ensures c.loop-left-test.true c.loop-left.invariant.1 c.if-not-is_allowed.true)
 
 pub overflow_sub-left : goal.overflow_sub-left
 overflow_sub-left c = omega (arith, c.loop-left-test.true)
@@ -39,7 +39,7 @@ pub overflow_add-at : goal.overflow_add-at
 overflow_add-at c = omega (arith, c.loop-left-test.true, c.loop-left.invariant.1, c.well_formed)
 
 pub taken-requires : goal.taken-requires
-taken-requires c = (sym c.is_allowed.ensures ∙ not-false _ c.if-not-is_allowed.false, omega (arith, c.loop-left.invariant.1, c.loop-left.invariant.2, c.well_formed))
+taken-requires c = (sym c.is_allowed.ensures ∙ c.if-not-is_allowed.false, omega (arith, c.loop-left.invariant.1, c.loop-left.invariant.2, c.well_formed))
 
 pub capped-b-requires : goal.capped-b-requires
 capped-b-requires c = omega (arith, c.loop-left.invariant.1, c.well_formed)
@@ -48,7 +48,7 @@ pub loop-left-smaller : goal.loop-left-smaller
 loop-left-smaller c = omega (arith, c.loop-left-test.true)
 
 pub loop-left-preserved : goal.loop-left-preserved
-loop-left-preserved c = (c.loop-left.invariant.0 ∙ judge_goes _ _ _ _ c.record_at-r.ensures c.element_of-e.ensures c.is_allowed.ensures c.loop-left-test.true c.loop-left.invariant.1 (not-false _ c.if-not-is_allowed.false) c.taken.ensures c.capped-b.ensures, omega (arith, c.loop-left-test.true, c.loop-left.invariant.1), rw c.capped-b.ensures (capped_owed _ _))
+loop-left-preserved c = (c.loop-left.invariant.0 ∙ judge_goes _ _ _ _ c.record_at-r.ensures c.element_of-e.ensures c.is_allowed.ensures c.loop-left-test.true c.loop-left.invariant.1 c.if-not-is_allowed.false c.taken.ensures c.capped-b.ensures, omega (arith, c.loop-left-test.true, c.loop-left.invariant.1), rw c.capped-b.ensures (capped_owed _ _))
 
 pub finish-requires : goal.finish-requires
 finish-requires c = tt

@@ -6,7 +6,7 @@ use borrow.Author.Rules.{rules}
 use Rattle.records.proofs.grammar.used_alone.Goals as goal
 
 pub returns-in-Register : goal.returns-in-Register
-returns-in-Register c = rw c.in-Register.is (c.is_Within.ensures ∙ within_used 255 255 0 16777215 0 (widths 0 Register) _ refl refl refl refl refl)
+returns-in-Register c = rw c.in-Register.is (c.is_within.ensures ∙ within_used 255 255 0 16777215 0 (widths 0 Register) _ refl refl refl refl refl)
 
 pub returns-in-RegisterInstance : goal.returns-in-RegisterInstance
 returns-in-RegisterInstance c = rw c.in-RegisterInstance.is c.is_instance.ensures

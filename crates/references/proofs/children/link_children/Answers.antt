@@ -19,13 +19,13 @@ pub returns-then-not-linked : goal.returns-then-not-linked
 returns-then-not-linked c = λ i e. clash e refl
 
 pub overflow_add-k : goal.overflow_add-k
-overflow_add-k c = omega (arith, c.before.before.before.Link-row.ensures.1 (not-false _ c.if-not-linked.false))
+overflow_add-k c = omega (arith, c.link_row-linked.ensures.k_in_bounds c.if-not-linked.false)
 
 pub loop-i-preserved : goal.loop-i-preserved
 loop-i-preserved c = (
   c.child-1.given ∙ c.loop-i.invariant.0,
   λ i. linking_next _ _ _ (c.loop-i.invariant.1 i) (λ j. (c.type_inv.s j).fits) c.loop-i-test.true
-      (c.Link-row.ensures.0 i (not-false _ c.if-not-linked.false)),
+      (c.link_row-linked.ensures.ks_value i c.if-not-linked.false),
 )
 
 pub shape_of-child : goal.shape_of-child

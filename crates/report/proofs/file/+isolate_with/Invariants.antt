@@ -9,6 +9,5 @@ use Rattle.report.specs.Report.{isolate_file}
 use Rattle.report.proofs.FileLaws.{file_number}
 use Rattle.report.proofs.file.+isolate_with.Given as goal
 
--- MEASURE abbrev μ-isolate-with : Measures 3 isolate-with-kinds.ps ℕ μ-isolate-with κs a = a.1.1.1.1.0
 abbrev pub decreases-isolate_with : goal.decreases-isolate_with
-decreases-isolate_with l = ?
+decreases-isolate_with l = l.larger

@@ -12,11 +12,11 @@ use Rattle.report.proofs.file.isolate_in.Goals as goal
 
 pub returns-then-not-both_fit : goal.returns-then-not-both_fit
 unfolding limits_of
-returns-then-not-both_fit c = readings_short _ _ _ c.both_fit.ensures _ _ _ (not-true _ c.if-not-both_fit.true)
+returns-then-not-both_fit c = readings_short _ _ _ c.both_fit.ensures _ _ _ c.if-not-both_fit.true
 
 pub returns-then-unread-names : goal.returns-then-unread-names
 unfolding limits_of
-returns-then-unread-names c = readings_room _ _ _ c.both_fit.ensures _ _ _ (not-false _ c.if-not-both_fit.false) (unread_short LimitSet.Program _ _ _ _ _ c.if-unread-names.true)
+returns-then-unread-names c = readings_room _ _ _ c.both_fit.ensures _ _ _ c.if-not-both_fit.false (unread_short LimitSet.Program _ _ _ _ _ c.if-unread-names.true)
 
 pub shape_of-list : goal.shape_of-list
 shape_of-list c = c.list-1.given
@@ -58,7 +58,7 @@ pub returns-in-Done : goal.returns-in-Done
 unfolding limits_of
 returns-in-Done c =
     let y = c.examine_in-e.ensures.examined _ c.in-Done.is in
-    let h = not-false _ c.if-not-both_fit.false in
+    let h = c.if-not-both_fit.false in
     let b = both_in _ _ _ c.both_fit.ensures h in
     readings_room _ _ _ c.both_fit.ensures _ _ _ h
     (given_answer LimitSet.Program _ _ _ _ _ c.if-unread-names.false _ c.examine_in-e.ensures.result_value c.in-Done.is y _ _ c.wanted-1.given c.unread-1.given
@@ -94,5 +94,5 @@ shape_of-unread-in-Refused c = c.unread-1.given
 pub returns-in-Refused : goal.returns-in-Refused
 unfolding limits_of
 returns-in-Refused c =
-    readings_room _ _ _ c.both_fit.ensures _ _ _ (not-false _ c.if-not-both_fit.false)
+    readings_room _ _ _ c.both_fit.ensures _ _ _ c.if-not-both_fit.false
     (given_refused LimitSet.Program _ _ _ _ _ c.if-unread-names.false _ c.examine_in-e.ensures.result_value c.in-Refused.is (λ n p. refused_outcome n p c.args.list.now) refl (answer_file _ _ _ _ _))

@@ -10,39 +10,39 @@ pub returns-then-keys-m : goal.returns-then-keys-m
 returns-then-keys-m c = λ of x. absurd (omega (arith, x.registers-in, c.if-keys-m.true))
 
 pub returns-then-not-both_fit : goal.returns-then-not-both_fit
-returns-then-not-both_fit c = λ of x. readings_short _ _ _ c.both_fit.ensures _ _ _ (not-true _ c.if-not-both_fit.true)
+returns-then-not-both_fit c = λ of x. readings_short _ _ _ c.both_fit.ensures _ _ _ c.if-not-both_fit.true
 
 pub slice_bounds-decode_named-end : goal.slice_bounds-decode_named-end
 slice_bounds-decode_named-end c = sym (length-take-le _ _ c.if-keys-m.false)
 
 pub slice_bounds-answer-end : goal.slice_bounds-answer-end
 slice_bounds-answer-end c =
-    let b = both_in _ _ _ c.both_fit.ensures (not-false _ c.if-not-both_fit.false) in
+    let b = both_in _ _ _ c.both_fit.ensures c.if-not-both_fit.false in
     let h = first_in c.args.keys.now c.if-keys-m.false b.0 in
     omega (arith, h, c.decode_named-k.ensures.few.0, c.words-1.given)
 
 pub slice_bounds-answer-end-2 : goal.slice_bounds-answer-end-2
 slice_bounds-answer-end-2 c =
-    let b = both_in _ _ _ c.both_fit.ensures (not-false _ c.if-not-both_fit.false) in
+    let b = both_in _ _ _ c.both_fit.ensures c.if-not-both_fit.false in
     let h = first_in c.args.keys.now c.if-keys-m.false b.0 in
     sym (length-take-le _ _ (omega (arith, h, c.decode_named-k.ensures.few.0, c.words-1.given)))
 
 pub slice_bounds-answer-end-3 : goal.slice_bounds-answer-end-3
 slice_bounds-answer-end-3 c =
-    let b = both_in _ _ _ c.both_fit.ensures (not-false _ c.if-not-both_fit.false) in
+    let b = both_in _ _ _ c.both_fit.ensures c.if-not-both_fit.false in
     let h = first_in c.args.keys.now c.if-keys-m.false b.1 in
     omega (arith, h, c.decode_named-k.ensures.few.0, c.read-1.given)
 
 pub slice_bounds-answer-end-4 : goal.slice_bounds-answer-end-4
 slice_bounds-answer-end-4 c =
-    let b = both_in _ _ _ c.both_fit.ensures (not-false _ c.if-not-both_fit.false) in
+    let b = both_in _ _ _ c.both_fit.ensures c.if-not-both_fit.false in
     let h = first_in c.args.keys.now c.if-keys-m.false b.1 in
     sym (length-take-le _ _ (omega (arith, h, c.decode_named-k.ensures.few.0, c.read-1.given)))
 
 pub returns : goal.returns
 returns c =
     λ of x.
-    let h = not-false _ c.if-not-both_fit.false in
+    let h = c.if-not-both_fit.false in
     let b = both_in _ _ _ c.both_fit.ensures h in
     readings_answer _ _ _ c.both_fit.ensures _ _ _ h
     (decoded_is _ _ (λ i. (c.type_inv.file i).fits) x.accepted _ _ x.keys_are _ _ _ (first_in c.args.keys.now c.if-keys-m.false b.0) (first_in c.args.keys.now c.if-keys-m.false b.1) c.decode_named-k.ensures.count c.decode_named-k.ensures.few.1.0 c.decode_named-k.ensures.few.1.1)

@@ -7,6 +7,5 @@ use Rattle.writer.specs.Building.{built_in}
 use Rattle.writer.proofs.BuildingLaws.{class_exact, class_kept}
 use Rattle.writer.proofs.classes.+write_with.Given as goal
 
--- MEASURE abbrev μ-write-with : Measures 2 write-with-kinds.ps ℕ μ-write-with κs a = a.1.1.1.0
 abbrev pub decreases-write_with : goal.decreases-write_with
-decreases-write_with l = ?
+decreases-write_with l = l.larger
