@@ -6,9 +6,5 @@ use Rattle.cycles.proofs.row_forward.Goals as goal
 pub loop-b-init : goal.loop-b-init
 loop-b-init c = (omega arith, flag_none _ _)
 
-pub loop-b-preserved : goal.loop-b-preserved
-loop-b-preserved c =
-    (search rules, ⊎_elim (λ w. flag-set _ _ c.loop-b.invariant.1 (later-not _ _ w.0.taken) w.1) (λ w. flag_kept _ _ c.loop-b.invariant.1 (later _ _ w.0.left) w.1) c.if-row-b.branch)
-
 pub returns : goal.returns
 returns c = flag_end _ _ c.loop-b.invariant.1 (omega arith)
