@@ -7,11 +7,17 @@ use Rattle.abi.proofs.lutemarble_write.Goals as goal
 pub returns-in-Written : goal.returns-in-Written
 returns-in-Written c =
     let e = answer_as _ c.in-Written.is c.write-w.ensures in
-    let the = (ap (λ o. o.number) e, (ap (λ o. o.output) e, answered_as output_list _ e c.put_three.ensures)) in
-    record { number = the.0; file = the.1; answer = the.2 }
+    record {
+      number = ap (λ o. o.number) e;
+      file = ap (λ o. o.output) e;
+      answer = answered_as output_list _ e c.put_three.ensures;
+    }
 
 pub returns-in-Refused : goal.returns-in-Refused
 returns-in-Refused c =
     let e = answer_as _ c.in-Refused.is c.write-w.ensures in
-    let the = (c.number-n.ensures ∙ ap (λ o. o.number) e, (ap (λ o. o.output) e, answered_as output_list _ e (c.put_three-in-Refused.ensures ∙ refused_three _ _ c.number-n.ensures))) in
-    record { number = the.0; file = the.1; answer = the.2 }
+    record {
+      number = c.number-n.ensures ∙ ap (λ o. o.number) e;
+      file = ap (λ o. o.output) e;
+      answer = answered_as output_list _ e (c.put_three-in-Refused.ensures ∙ refused_three _ _ c.number-n.ensures);
+    }

@@ -35,9 +35,11 @@ module _ (t : ℕ) (s : Entry t) (some : length s.args.file-lengths.now ≡ 0 �
 
 pub returns-then-file_lengths-eq0 : goal.returns-then-file_lengths-eq0
 unfolding is_gathered
-returns-then-file_lengths-eq0 t c =
-    let the = (λ h. no_slots _ _ _ _ _ _ _ _ _ _ c.if-file_lengths-eq0.true, (λ p q. refl, (omega arith, omega arith, omega arith, omega arith))) in
-    record { exact = the.0; enough = the.1; within = the.2 }
+returns-then-file_lengths-eq0 t c = record {
+  exact = λ h. no_slots _ _ _ _ _ _ _ _ _ _ c.if-file_lengths-eq0.true;
+  enough = λ p q. refl;
+  within = (omega arith, omega arith, omega arith, omega arith);
+}
 
 pub bounds-file_lengths-0 : goal.bounds-file_lengths-0
 bounds-file_lengths-0 t c = omega (arith, one-file t c c.if-file_lengths-eq0.false)
@@ -124,42 +126,42 @@ overflow_add-slot t c = omega (arith, one-file t c c.if-file_lengths-eq0.false, 
 
 pub offset_bounds-heads-n : goal.offset_bounds-heads-n
 offset_bounds-heads-n t c =
-    let w = within_rows c.args.heads.now c.args.rows.now c.in-Rows.is c.find-s.ensures.enough.1 in
+    let w = within_rows c.args.heads.now c.args.rows.now c.in-Rows.is c.find-s.ensures.within in
     omega (arith, w.0)
 
 pub slice_bounds-find_slots-count-in-Rows-6 : goal.slice_bounds-find_slots-count-in-Rows-6
 slice_bounds-find_slots-count-in-Rows-6 t c =
-    let w = within_rows c.args.heads.now c.args.rows.now c.in-Rows.is c.find-s.ensures.enough.1 in
+    let w = within_rows c.args.heads.now c.args.rows.now c.in-Rows.is c.find-s.ensures.within in
     omega (arith, w.1, c.heads-1.given)
 
 pub slice_bounds-find_slots-start-in-Rows-6 : goal.slice_bounds-find_slots-start-in-Rows-6
 slice_bounds-find_slots-start-in-Rows-6 t c =
-    let w = within_rows c.args.heads.now c.args.rows.now c.in-Rows.is c.find-s.ensures.enough.1 in
+    let w = within_rows c.args.heads.now c.args.rows.now c.in-Rows.is c.find-s.ensures.within in
     omega (arith, w.1, c.heads-1.given)
 
 pub slice_bounds-find_slots-end-in-Rows-6 : goal.slice_bounds-find_slots-end-in-Rows-6
 slice_bounds-find_slots-end-in-Rows-6 t c =
-    let w = within_rows c.args.heads.now c.args.rows.now c.in-Rows.is c.find-s.ensures.enough.1 in
+    let w = within_rows c.args.heads.now c.args.rows.now c.in-Rows.is c.find-s.ensures.within in
     omega (arith, w.1, c.heads-1.given)
 
 pub offset_bounds-rows-n : goal.offset_bounds-rows-n
 offset_bounds-rows-n t c =
-    let w = within_rows c.args.heads.now c.args.rows.now c.in-Rows.is c.find-s.ensures.enough.1 in
+    let w = within_rows c.args.heads.now c.args.rows.now c.in-Rows.is c.find-s.ensures.within in
     omega (arith, w.0)
 
 pub slice_bounds-find_slots-count-in-Rows-7 : goal.slice_bounds-find_slots-count-in-Rows-7
 slice_bounds-find_slots-count-in-Rows-7 t c =
-    let w = within_rows c.args.heads.now c.args.rows.now c.in-Rows.is c.find-s.ensures.enough.1 in
+    let w = within_rows c.args.heads.now c.args.rows.now c.in-Rows.is c.find-s.ensures.within in
     omega (arith, w.2, c.rows-1.given)
 
 pub slice_bounds-find_slots-start-in-Rows-7 : goal.slice_bounds-find_slots-start-in-Rows-7
 slice_bounds-find_slots-start-in-Rows-7 t c =
-    let w = within_rows c.args.heads.now c.args.rows.now c.in-Rows.is c.find-s.ensures.enough.1 in
+    let w = within_rows c.args.heads.now c.args.rows.now c.in-Rows.is c.find-s.ensures.within in
     omega (arith, w.2, c.rows-1.given)
 
 pub slice_bounds-find_slots-end-in-Rows-7 : goal.slice_bounds-find_slots-end-in-Rows-7
 slice_bounds-find_slots-end-in-Rows-7 t c =
-    let w = within_rows c.args.heads.now c.args.rows.now c.in-Rows.is c.find-s.ensures.enough.1 in
+    let w = within_rows c.args.heads.now c.args.rows.now c.in-Rows.is c.find-s.ensures.within in
     omega (arith, w.2, c.rows-1.given)
 
 pub find_slots-t-requires : goal.find_slots-t-requires
@@ -175,16 +177,16 @@ find_slots-t-requires t c =
 pub overflow_add-result : goal.overflow_add-result
 overflow_add-result t c =
     let others = others-few t c c.if-file_lengths-eq0.false in
-    let w = within_rows c.args.heads.now c.args.rows.now c.in-Rows.is c.find-s.ensures.enough.1 in
-    let g = gathered_rows (length (mid_of 1 (length c.args.file-lengths.now - 1) c.args.file-lengths.now)) _ _ c.in-Rows-t.is c.find_slots-t.ensures.enough.1 in
+    let w = within_rows c.args.heads.now c.args.rows.now c.in-Rows.is c.find-s.ensures.within in
+    let g = gathered_rows (length (mid_of 1 (length c.args.file-lengths.now - 1) c.args.file-lengths.now)) _ _ c.in-Rows-t.is c.find_slots-t.ensures.within in
     omega (arith, w.0, g.0, others, c.requires.word_lengths_len.1.2, most_slots)
 
 pub overflow_add-result-in-Rows-t : goal.overflow_add-result-in-Rows-t
 overflow_add-result-in-Rows-t t c =
     let one = one-file t c c.if-file_lengths-eq0.false in
     let others = others-few t c c.if-file_lengths-eq0.false in
-    let g = gathered_rows (length (mid_of 1 (length c.args.file-lengths.now - 1) c.args.file-lengths.now)) _ _ c.in-Rows-t.is c.find_slots-t.ensures.enough.1 in
-    omega (arith, first_steps c.args.attention c.args.slot c.args.file-lengths.now c.args.word-lengths.now c.args.read-lengths.now c.args.files.now c.args.words.now c.args.read.now one c.requires.word_lengths_len.1.0 c.requires.word_lengths_len.1.1 c.find-s.new.1.1.1.1.1.0 c.find-s.new.1.1.1.1.1.1.0 c.in-Rows.is c.find-s.ensures.exact (λ i. (c.type_inv.files i).fits), g.3, others, c.requires.word_lengths_len.1.2, most_slots)
+    let g = gathered_rows (length (mid_of 1 (length c.args.file-lengths.now - 1) c.args.file-lengths.now)) _ _ c.in-Rows-t.is c.find_slots-t.ensures.within in
+    omega (arith, first_steps c.args.attention c.args.slot c.args.file-lengths.now c.args.word-lengths.now c.args.read-lengths.now c.args.files.now c.args.words.now c.args.read.now one c.requires.word_lengths_len.1.0 c.requires.word_lengths_len.1.1 c.find-s.new.heads c.find-s.new.rows.0 c.in-Rows.is c.find-s.ensures.exact (λ i. (c.type_inv.files i).fits), g.3, others, c.requires.word_lengths_len.1.2, most_slots)
 
 pub shape_of-heads-in-Rows-t : goal.shape_of-heads-in-Rows-t
 shape_of-heads-in-Rows-t t c =
@@ -204,24 +206,20 @@ returns-in-Rows-t t c =
     let in_words_lem = words-within t c c.if-file_lengths-eq0.false in
     let in-read = read-within t c c.if-file_lengths-eq0.false in
     let others = others-few t c c.if-file_lengths-eq0.false in
-    let w = within_rows c.args.heads.now c.args.rows.now c.in-Rows.is c.find-s.ensures.enough.1 in
-    let g = gathered_rows (length (mid_of 1 (length c.args.file-lengths.now - 1) c.args.file-lengths.now)) _ _ c.in-Rows-t.is c.find_slots-t.ensures.enough.1 in
-    let the = (
-      λ h.
-          put_joined c.args.attention _ c.find-s.new.1.1.1.1.1.0 c.find-s.new.1.1.1.1.1.1.0 c.find_slots-t.new.1.1.1.1.1.1.1.1.0 c.find_slots-t.new.1.1.1.1.1.1.1.1.1.0 c.in-Rows.x.rows (omega (arith, w.1, c.heads-1.given)) (omega (arith, w.2, c.rows-1.given))
-          (later_joined c.args.attention c.args.slot c.args.file-lengths.now c.args.word-lengths.now c.args.read-lengths.now c.args.files.now c.args.words.now c.args.read.now one c.requires.word_lengths_len.1.0 c.requires.word_lengths_len.1.1 c.find-s.new.1.1.1.1.1.0 c.find-s.new.1.1.1.1.1.1.0 c.in-Rows.is c.find-s.ensures.exact c.find_slots-t.new.1.1.1.1.1.1.1.1.0 c.find_slots-t.new.1.1.1.1.1.1.1.1.1.0 (omega (arith, w.1, c.heads-1.given)) (omega (arith, w.2, c.rows-1.given)) c.in-Rows-t.is
-          (λ h. c.find_slots-t.ensures.exact h ∙ rest_is c.args.attention c.args.slot c.args.file-lengths.now c.args.word-lengths.now c.args.read-lengths.now c.args.files.now c.args.words.now c.args.read.now one c.requires.word_lengths_len.1.0 c.requires.word_lengths_len.1.1 (mid_rest c.args.file-lengths.now 1 one) (mid_rest c.args.word-lengths.now 1 one-w) (mid_rest c.args.read-lengths.now 1 one-r) (mid_rest c.args.files.now _ in-files) (mid_rest c.args.words.now _ in_words_lem) (mid_rest c.args.read.now _ in-read))),
-      (
-        λ p q. refl,
-        (
-          omega (arith, w.0, g.0, others),
-          omega (arith, w.1, g.1, mid-length c.find-s.new.1.1.1.1.1.0 c.in-Rows.x.rows (omega (arith, w.1, c.heads-1.given)), c.heads-1.given),
-          omega (arith, w.2, g.2, mid-length c.find-s.new.1.1.1.1.1.1.0 c.in-Rows.x.rows (omega (arith, w.2, c.rows-1.given)), c.rows-1.given),
-          omega (arith, first_steps c.args.attention c.args.slot c.args.file-lengths.now c.args.word-lengths.now c.args.read-lengths.now c.args.files.now c.args.words.now c.args.read.now one c.requires.word_lengths_len.1.0 c.requires.word_lengths_len.1.1 c.find-s.new.1.1.1.1.1.0 c.find-s.new.1.1.1.1.1.1.0 c.in-Rows.is c.find-s.ensures.exact (λ i. (c.type_inv.files i).fits), g.3, others),
-        ),
-      ),
-    ) in
-    record { exact = the.0; enough = the.1; within = the.2 }
+    let w = within_rows c.args.heads.now c.args.rows.now c.in-Rows.is c.find-s.ensures.within in
+    let g = gathered_rows (length (mid_of 1 (length c.args.file-lengths.now - 1) c.args.file-lengths.now)) _ _ c.in-Rows-t.is c.find_slots-t.ensures.within in record {
+      exact = λ h.
+          put_joined c.args.attention _ c.find-s.new.heads c.find-s.new.rows.0 c.find_slots-t.new.heads c.find_slots-t.new.rows.0 c.in-Rows.x.rows (omega (arith, w.1, c.heads-1.given)) (omega (arith, w.2, c.rows-1.given))
+          (later_joined c.args.attention c.args.slot c.args.file-lengths.now c.args.word-lengths.now c.args.read-lengths.now c.args.files.now c.args.words.now c.args.read.now one c.requires.word_lengths_len.1.0 c.requires.word_lengths_len.1.1 c.find-s.new.heads c.find-s.new.rows.0 c.in-Rows.is c.find-s.ensures.exact c.find_slots-t.new.heads c.find_slots-t.new.rows.0 (omega (arith, w.1, c.heads-1.given)) (omega (arith, w.2, c.rows-1.given)) c.in-Rows-t.is
+          (λ h. c.find_slots-t.ensures.exact h ∙ rest_is c.args.attention c.args.slot c.args.file-lengths.now c.args.word-lengths.now c.args.read-lengths.now c.args.files.now c.args.words.now c.args.read.now one c.requires.word_lengths_len.1.0 c.requires.word_lengths_len.1.1 (mid_rest c.args.file-lengths.now 1 one) (mid_rest c.args.word-lengths.now 1 one-w) (mid_rest c.args.read-lengths.now 1 one-r) (mid_rest c.args.files.now _ in-files) (mid_rest c.args.words.now _ in_words_lem) (mid_rest c.args.read.now _ in-read)));
+      enough = λ p q. refl;
+      within = (
+        omega (arith, w.0, g.0, others),
+        omega (arith, w.1, g.1, mid-length c.find-s.new.heads c.in-Rows.x.rows (omega (arith, w.1, c.heads-1.given)), c.heads-1.given),
+        omega (arith, w.2, g.2, mid-length c.find-s.new.rows.0 c.in-Rows.x.rows (omega (arith, w.2, c.rows-1.given)), c.rows-1.given),
+        omega (arith, first_steps c.args.attention c.args.slot c.args.file-lengths.now c.args.word-lengths.now c.args.read-lengths.now c.args.files.now c.args.words.now c.args.read.now one c.requires.word_lengths_len.1.0 c.requires.word_lengths_len.1.1 c.find-s.new.heads c.find-s.new.rows.0 c.in-Rows.is c.find-s.ensures.exact (λ i. (c.type_inv.files i).fits), g.3, others),
+      );
+    }
 
 pub shape_of-heads-in-Refused-t : goal.shape_of-heads-in-Refused-t
 shape_of-heads-in-Refused-t t c =
@@ -240,17 +238,14 @@ returns-in-Refused-t t c =
     let in_words_lem = words-within t c c.if-file_lengths-eq0.false in
     let in-read = read-within t c c.if-file_lengths-eq0.false in
     let others = others-few t c c.if-file_lengths-eq0.false in
-    let w = within_rows c.args.heads.now c.args.rows.now c.in-Rows.is c.find-s.ensures.enough.1 in
-    let the = (
-      λ h. later_stopped c.args.attention c.args.slot c.args.file-lengths.now c.args.word-lengths.now c.args.read-lengths.now c.args.files.now c.args.words.now c.args.read.now one c.requires.word_lengths_len.1.0 c.requires.word_lengths_len.1.1 c.find-s.new.1.1.1.1.1.0 c.find-s.new.1.1.1.1.1.1.0 c.in-Rows.is c.find-s.ensures.exact c.find_slots-t.new.1.1.1.1.1.1.1.1.0 c.find_slots-t.new.1.1.1.1.1.1.1.1.1.0 c.find_slots-t.new.1.1.1.1.1.1.1.1.0 c.find_slots-t.new.1.1.1.1.1.1.1.1.1.0 c.in-Refused-t.is (λ h. c.find_slots-t.ensures.exact h ∙ rest_is c.args.attention c.args.slot c.args.file-lengths.now c.args.word-lengths.now c.args.read-lengths.now c.args.files.now c.args.words.now c.args.read.now one c.requires.word_lengths_len.1.0 c.requires.word_lengths_len.1.1 (mid_rest c.args.file-lengths.now 1 one) (mid_rest c.args.word-lengths.now 1 one-w) (mid_rest c.args.read-lengths.now 1 one-r) (mid_rest c.args.files.now _ in-files) (mid_rest c.args.words.now _ in_words_lem) (mid_rest c.args.read.now _ in-read)) h,
-      (
-        λ p q.
-            stopped-gathered _ c.in-Refused-t.is
-            (c.find_slots-t.ensures.enough.0 (omega (arith, p, w.0, w.1, c.heads-1.given, mid-length c.find-s.new.1.1.1.1.1.0 c.in-Rows.x.rows (omega (arith, w.1, c.heads-1.given)), others)) (omega (arith, q, w.0, w.2, c.rows-1.given, mid-length c.find-s.new.1.1.1.1.1.1.0 c.in-Rows.x.rows (omega (arith, w.2, c.rows-1.given)), others))),
-        tt,
-      ),
-    ) in
-    record { exact = the.0; enough = the.1; within = the.2 }
+    let w = within_rows c.args.heads.now c.args.rows.now c.in-Rows.is c.find-s.ensures.within in
+    record {
+      exact = λ h. later_stopped c.args.attention c.args.slot c.args.file-lengths.now c.args.word-lengths.now c.args.read-lengths.now c.args.files.now c.args.words.now c.args.read.now one c.requires.word_lengths_len.1.0 c.requires.word_lengths_len.1.1 c.find-s.new.heads c.find-s.new.rows.0 c.in-Rows.is c.find-s.ensures.exact c.find_slots-t.new.heads c.find_slots-t.new.rows.0 c.find_slots-t.new.heads c.find_slots-t.new.rows.0 c.in-Refused-t.is (λ h. c.find_slots-t.ensures.exact h ∙ rest_is c.args.attention c.args.slot c.args.file-lengths.now c.args.word-lengths.now c.args.read-lengths.now c.args.files.now c.args.words.now c.args.read.now one c.requires.word_lengths_len.1.0 c.requires.word_lengths_len.1.1 (mid_rest c.args.file-lengths.now 1 one) (mid_rest c.args.word-lengths.now 1 one-w) (mid_rest c.args.read-lengths.now 1 one-r) (mid_rest c.args.files.now _ in-files) (mid_rest c.args.words.now _ in_words_lem) (mid_rest c.args.read.now _ in-read)) h;
+      enough = λ p q.
+          stopped-gathered _ c.in-Refused-t.is
+          (c.find_slots-t.ensures.enough (omega (arith, p, w.0, w.1, c.heads-1.given, mid-length c.find-s.new.heads c.in-Rows.x.rows (omega (arith, w.1, c.heads-1.given)), others)) (omega (arith, q, w.0, w.2, c.rows-1.given, mid-length c.find-s.new.rows.0 c.in-Rows.x.rows (omega (arith, w.2, c.rows-1.given)), others)));
+      within = tt;
+    }
 
 pub shape_of-heads-in-Refused : goal.shape_of-heads-in-Refused
 shape_of-heads-in-Refused t c = c.heads-1.given
@@ -261,8 +256,8 @@ shape_of-rows-in-Refused t c = c.rows-1.given
 pub returns-in-Refused : goal.returns-in-Refused
 returns-in-Refused t c =
     let one = one-file t c c.if-file_lengths-eq0.false in
-    let the = (
-      λ h. slot_stopped c.args.attention c.args.slot c.args.file-lengths.now c.args.word-lengths.now c.args.read-lengths.now c.args.files.now c.args.words.now c.args.read.now one c.requires.word_lengths_len.1.0 c.requires.word_lengths_len.1.1 c.find-s.new.1.1.1.1.1.0 c.find-s.new.1.1.1.1.1.1.0 c.in-Refused.is c.find-s.ensures.exact h,
-      (λ p q. stopped_found _ c.in-Refused.is (c.find-s.ensures.enough.0 (omega (arith, p, one)) (omega (arith, q, one))), tt),
-    ) in
-    record { exact = the.0; enough = the.1; within = the.2 }
+    record {
+      exact = λ h. slot_stopped c.args.attention c.args.slot c.args.file-lengths.now c.args.word-lengths.now c.args.read-lengths.now c.args.files.now c.args.words.now c.args.read.now one c.requires.word_lengths_len.1.0 c.requires.word_lengths_len.1.1 c.find-s.new.heads c.find-s.new.rows.0 c.in-Refused.is c.find-s.ensures.exact h;
+      enough = λ p q. stopped_found _ c.in-Refused.is (c.find-s.ensures.enough (omega (arith, p, one)) (omega (arith, q, one)));
+      within = tt;
+    }

@@ -17,6 +17,17 @@ keep_row-k-requires c = (
   omega (arith, c.loop-i-test.true, c.loop-i.invariant.1, c.loop-i.invariant.4, c.requires.2),
 )
 
+pub loop-i-preserved : goal.loop-i-preserved
+loop-i-preserved c =
+    let e : length c.keep_row-k.new.heads ≡ length c.loop-i.heads = search rules in
+    let d : length c.keep_row-k.new.words ≡ length c.loop-i.words = search rules in (
+      search rules,
+      omega (arith, c.keep_row-k.ensures.upper_bound, c.loop-i.invariant.1),
+      kept_next _ _ _ _ _ _ c.loop-i.invariant.2 c.row_word-word.ensures (head_keyed _ _ c.args.keys.now c.loop-i.i c.key_at.ensures c.head_of-head.ensures) c.keep_row-k.ensures.words_after,
+      e ∙ c.loop-i.invariant.3,
+      d ∙ c.loop-i.invariant.4,
+    )
+
 pub returns : goal.returns
 returns c = record {
   rows_kept = kept_end _ _ _ _ _ _ _ c.loop-i.invariant.2 (omega (arith, c.loop-i.invariant.0));

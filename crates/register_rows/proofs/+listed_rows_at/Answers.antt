@@ -26,7 +26,7 @@ returns-then-is_told t c =
     let h = told_room c.args.n middle.registers _ c.few_rows_at-c.ensures.result_value (sym c.is_told.ensures ∙ c.if-is_told.true) in
     record {
       result_value = h.1;
-      kinds_after = λ rs m d. c.few_rows_at-c.ensures.kinds_after.0 rs m h.0 d;
+      kinds_after = λ rs m d. c.few_rows_at-c.ensures.kinds_after rs m h.0 d;
     }
 
 pub listed_rows_at-requires : goal.listed_rows_at-requires
@@ -37,5 +37,5 @@ returns t c =
     let h = sym c.is_told.ensures ∙ c.if-is_told.false in
     record {
       result_value = c.listed_rows_at.ensures.result_value;
-      kinds_after = λ rs m d. c.listed_rows_at.ensures.kinds_after rs m d ∙ ap (λ t. filled t 0 (map register_row (gathered entries_of rs))) (c.few_rows_at-c.ensures.kinds_after.1 (untold_over c.args.n middle.registers register_total _ c.few_rows_at-c.ensures.result_value h d));
+      kinds_after = λ rs m d. c.listed_rows_at.ensures.kinds_after rs m d ∙ ap (λ t. filled t 0 (map register_row (gathered entries_of rs))) (c.few_rows_at-c.ensures.kinds_unchanged (untold_over c.args.n middle.registers register_total _ c.few_rows_at-c.ensures.result_value h d));
     }

@@ -12,7 +12,7 @@ returns-then-larger-lt3 t c =
 pub returns-then-n-gt0 : goal.returns-then-n-gt0
 returns-then-n-gt0 t c = record {
   put = c.report_short-n.ensures.put c.if-n-gt0.true;
-  upper_bound = c.report_short-n.ensures.text_unchanged.1;
+  upper_bound = c.report_short-n.ensures.upper_bound;
 }
 
 pub overflow_sub-larger : goal.overflow_sub-larger
@@ -23,6 +23,6 @@ report_with-requires t c = (omega arith, tt)
 
 pub returns : goal.returns
 returns t c = record {
-  put = put_from (c.report_short-n.ensures.text_unchanged.0 (omega (arith, c.if-n-gt0.false))) c.report_with.ensures.put;
+  put = put_from (c.report_short-n.ensures.text_unchanged (omega (arith, c.if-n-gt0.false))) c.report_with.ensures.put;
   upper_bound = c.report_with.ensures.upper_bound;
 }

@@ -6,8 +6,8 @@ use Rattle.report.proofs.put_number.Goals as goal
 
 pub put-requires : goal.put-requires
 put-requires c =
-    omega (arith, c.decimal-k.ensures.in_bounds.1, digits_few _ _ c.decimal-k.ensures.len.0 (omega arith))
+    omega (arith, c.decimal-k.ensures.in_bounds.1, digits_few _ _ c.decimal-k.ensures.len (omega arith))
 
 pub returns : goal.returns
 returns c =
-    put_as c.put.ensures (digits_decimal _ _ c.decimal-k.ensures.len.0 (omega arith) c.decimal-k.ensures.len.1)
+    put_as c.put.ensures (digits_decimal _ _ c.decimal-k.ensures.len (omega arith) c.decimal-k.ensures.1.1)

@@ -5,9 +5,11 @@ use Rattle.node_pass.proofs.SectionLaws.{holds, holds_not, few_taken, kept_exact
 use Rattle.node_pass.proofs.section.nodes_at.Goals as goal
 
 pub returns-then-not-has_names : goal.returns-then-not-has_names
-returns-then-not-has_names c =
-    let the = (c.exact_at.ensures.result_value, ((λ p ns end q d. kept_exact _ _ _ _ _ _ ns refl refl refl (c.exact_at.ensures.fits_value p ns end q d)), record { indexed = λ f k l. holds_not _ _ _ c.has_names.ensures c.if-not-has_names.true f k l })) in
-    record { result_value = the.0; nodes_kept = the.1; index_kept = the.2 }
+returns-then-not-has_names c = record {
+  result_value = c.exact_at.ensures.result_value;
+  nodes_kept = (λ p ns end q d. kept_exact _ _ _ _ _ _ ns refl refl refl (c.exact_at.ensures.fits_value p ns end q d));
+  index_kept = record { indexed = λ f k l. holds_not _ _ _ c.has_names.ensures c.if-not-has_names.true f k l };
+}
 
 pub slice_bounds-enter_all-end : goal.slice_bounds-enter_all-end
 slice_bounds-enter_all-end c = sym (length-take-le _ _ (holds _ _ _ c.has_names.ensures c.if-not-has_names.false).keys_in)
@@ -21,19 +23,19 @@ slice_bounds-pass_at-end-2 c = sym (length-take-le _ _ (holds _ _ _ c.has_names.
 pub returns-then-p-eq0 : goal.returns-then-p-eq0
 returns-then-p-eq0 c =
     let h = holds c.args.m _ _ c.has_names.ensures c.if-not-has_names.false in
-    let the = (
-      c.exact_at-then-p-eq0.ensures.result_value,
-      (
-        (λ p ns end q d. kept_exact _ _ _ _ _ _ ns c.names-2-1.given c.wanted-2-1.given c.places-2-1.given (c.exact_at-then-p-eq0.ensures.fits_value p ns end q d)),
-        record { indexed = λ f k l. c.enter_all.ensures (few_taken c.args.m c.args.keys.now h.keys_in h.few) },
-      ),
-    ) in
-    record { result_value = the.0; nodes_kept = the.1; index_kept = the.2 }
+    record {
+      result_value = c.exact_at-then-p-eq0.ensures.result_value;
+      nodes_kept = (λ p ns end q d. kept_exact _ _ _ _ _ _ ns c.names-2-1.given c.wanted-2-1.given c.places-2-1.given (c.exact_at-then-p-eq0.ensures.fits_value p ns end q d));
+      index_kept = record { indexed = λ f k l. c.enter_all.ensures (few_taken c.args.m c.args.keys.now h.keys_in h.few) };
+    }
 
 pub returns : goal.returns
 returns c =
     let h = holds c.args.m _ _ c.has_names.ensures c.if-not-has_names.false in
     let n = c.enter_all.ensures (few_taken c.args.m c.args.keys.now h.keys_in h.few) in
     let q = c.pass_at-p.ensures n c.if-p-eq0.false in
-    let the = (parsed_passed _ _ _ c.args.m c.args.keys.now c.args.kinds.now _ _ q, ((λ p ns end o d. kept_passed _ _ _ c.args.m c.args.keys.now c.args.kinds.now _ _ q h o ns end d), record { indexed = λ f k l. n })) in
-    record { result_value = the.0; nodes_kept = the.1; index_kept = the.2 }
+    record {
+      result_value = parsed_passed _ _ _ c.args.m c.args.keys.now c.args.kinds.now _ _ q;
+      nodes_kept = (λ p ns end o d. kept_passed _ _ _ c.args.m c.args.keys.now c.args.kinds.now _ _ q h o ns end d);
+      index_kept = record { indexed = λ f k l. n };
+    }

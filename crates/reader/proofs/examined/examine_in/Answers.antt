@@ -52,17 +52,17 @@ returns-in-Next c =
     let clean = ap next_parsed c.in-Next.is in record {
       result_value = in_roomy _ _ _ w room c.if-has_room.true (examined_clean _ _ w (λ chip layout file.
           let d = laid _ _ (λ i. (c.type_inv.s i).fits) chip layout file in
-          let n = c.whole-w.ensures.nodes_kept.0 _ _ _ c.in-Done.is d.nodes in
-          c.judge-f.ensures.result_value _ chip file d.roots (laid_tables _ d _ _ _ _ _ _ r (c.whole-w.ensures.nodes_kept.1.0 _ _ _ c.in-Done.is d.registers) n) (laid_entries _ d n) (laid_index _ d (c.whole-w.ensures.nodes_kept.1.1 _ c.in-Done.is) o.keys o.kinds) (omega (arith, r.child, d.node_count))) clean);
+          let n = c.whole-w.ensures.nodes_kept _ _ _ c.in-Done.is d.nodes in
+          c.judge-f.ensures.result_value _ chip file d.roots (laid_tables _ d _ _ _ _ _ _ r (c.whole-w.ensures.kinds_after _ _ _ c.in-Done.is d.registers) n) (laid_entries _ d n) (laid_index _ d (c.whole-w.ensures.index_kept _ c.in-Done.is) o.keys o.kinds) (omega (arith, r.child, d.node_count))) clean);
       examined = λ k q.
           let d = laid_is _ _ (λ i. (c.type_inv.s i).fits) c.in-Done.l w in
           let v = clean_verdict _ _ w (λ chip layout file.
           let d = laid _ _ (λ i. (c.type_inv.s i).fits) chip layout file in
-          let n = c.whole-w.ensures.nodes_kept.0 _ _ _ c.in-Done.is d.nodes in
-          c.judge-f.ensures.result_value _ chip file d.roots (laid_tables _ d _ _ _ _ _ _ r (c.whole-w.ensures.nodes_kept.1.0 _ _ _ c.in-Done.is d.registers) n) (laid_entries _ d n) (laid_index _ d (c.whole-w.ensures.nodes_kept.1.1 _ c.in-Done.is) o.keys o.kinds) (omega (arith, r.child, d.node_count))) clean in
-          let n = c.whole-w.ensures.nodes_kept.0 _ _ _ c.in-Done.is d.nodes in
-          let g = laid_tables _ d _ _ _ _ _ _ r (c.whole-w.ensures.nodes_kept.1.0 _ _ _ c.in-Done.is d.registers) n in
-          let i = laid_index _ d (c.whole-w.ensures.nodes_kept.1.1 _ c.in-Done.is) o.keys o.kinds in
+          let n = c.whole-w.ensures.nodes_kept _ _ _ c.in-Done.is d.nodes in
+          c.judge-f.ensures.result_value _ chip file d.roots (laid_tables _ d _ _ _ _ _ _ r (c.whole-w.ensures.kinds_after _ _ _ c.in-Done.is d.registers) n) (laid_entries _ d n) (laid_index _ d (c.whole-w.ensures.index_kept _ c.in-Done.is) o.keys o.kinds) (omega (arith, r.child, d.node_count))) clean in
+          let n = c.whole-w.ensures.nodes_kept _ _ _ c.in-Done.is d.nodes in
+          let g = laid_tables _ d _ _ _ _ _ _ r (c.whole-w.ensures.kinds_after _ _ _ c.in-Done.is d.registers) n in
+          let i = laid_index _ d (c.whole-w.ensures.index_kept _ c.in-Done.is) o.keys o.kinds in
           let z = c.judge-f.ensures.linked _ _ _ c.in-Next.is (file_is _ _ (λ i. (c.type_inv.s i).fits) c.in-Done.l w) g (laid_entries _ d n) i in
           same_layout _ _ q (examined _ _ (λ i. (c.type_inv.s i).fits) c.in-Done.l w v z.base o.keys o.names o.places (omega (arith, r.child, z.sized)) g.keys_are i g.nodes_are g.places_are z.children_are);
     }
@@ -103,8 +103,8 @@ returns-in-Refused-f c =
     let o = roomy _ _ _ (sym c.if-has_room.true ∙ c.has_room.ensures) in record {
       result_value = in_roomy _ _ _ w room c.if-has_room.true (examined_faulty _ _ w (λ chip layout file.
           let d = laid _ _ (λ i. (c.type_inv.s i).fits) chip layout file in
-          let n = c.whole-w.ensures.nodes_kept.0 _ _ _ c.in-Done.is d.nodes in
-          c.judge-f.ensures.result_value _ chip file d.roots (laid_tables _ d _ _ _ _ _ _ r (c.whole-w.ensures.nodes_kept.1.0 _ _ _ c.in-Done.is d.registers) n) (laid_entries _ d n) (laid_index _ d (c.whole-w.ensures.nodes_kept.1.1 _ c.in-Done.is) o.keys o.kinds) (omega (arith, r.child, d.node_count))) (ap next_parsed c.in-Refused-f.is));
+          let n = c.whole-w.ensures.nodes_kept _ _ _ c.in-Done.is d.nodes in
+          c.judge-f.ensures.result_value _ chip file d.roots (laid_tables _ d _ _ _ _ _ _ r (c.whole-w.ensures.kinds_after _ _ _ c.in-Done.is d.registers) n) (laid_entries _ d n) (laid_index _ d (c.whole-w.ensures.index_kept _ c.in-Done.is) o.keys o.kinds) (omega (arith, r.child, d.node_count))) (ap next_parsed c.in-Refused-f.is));
       examined = λ k q. no_layout q;
     }
 

@@ -28,18 +28,15 @@ shape_of-entries-in-Byte c = c.entries-1.given
 
 pub returns-in-Byte : goal.returns-in-Byte
 unfolding layout_at
-returns-in-Byte c =
-    let the = (
-      number_then _ _ c.start_at-start.ensures c.in-Number.is
-          (section_then _ _ _ c.registers_at-first.ensures.result_value c.in-Section.is λ rs p.
-          nodes_then _ _ _ c.nodes_at-second.ensures.result_value c.in-Section-second.is λ ns q.
-          last_makes _ _ _ c.roots_at-third.ensures c.in-Byte.is λ ts r. summary_is _ rs ns ts _ _ _ _ p q r),
-      (
-        (λ l ns m e d. same_kept e (c.nodes_at-second.ensures.nodes_kept.0 _ ns m c.in-Section-second.is (same_nodes _ _ e ns m d))),
-        ((λ l rs m e d. c.registers_at-first.ensures.kinds_after rs m (same_registers _ _ e rs m d)), λ l e. same_index e c.nodes_at-second.ensures.nodes_kept.1),
-      ),
-    ) in
-    record { result_value = the.0; nodes_kept = the.1; kinds_after = the.2; index_kept = the.3 }
+returns-in-Byte c = record {
+  result_value = number_then _ _ c.start_at-start.ensures c.in-Number.is
+      (section_then _ _ _ c.registers_at-first.ensures.result_value c.in-Section.is λ rs p.
+      nodes_then _ _ _ c.nodes_at-second.ensures.result_value c.in-Section-second.is λ ns q.
+      last_makes _ _ _ c.roots_at-third.ensures c.in-Byte.is λ ts r. summary_is _ rs ns ts _ _ _ _ p q r);
+  nodes_kept = (λ l ns m e d. same_kept e (c.nodes_at-second.ensures.nodes_kept _ ns m c.in-Section-second.is (same_nodes _ _ e ns m d)));
+  kinds_after = (λ l rs m e d. c.registers_at-first.ensures.kinds_after rs m (same_registers _ _ e rs m d));
+  index_kept = λ l e. same_index e c.nodes_at-second.ensures.index_kept;
+}
 
 pub shape_of-keys-in-Refused-third : goal.shape_of-keys-in-Refused-third
 shape_of-keys-in-Refused-third c = c.keys-1.given
@@ -64,15 +61,15 @@ shape_of-entries-in-Refused-third c = c.entries-1.given
 
 pub returns-in-Refused-third : goal.returns-in-Refused-third
 unfolding layout_at
-returns-in-Refused-third c =
-    let the = (
-      number_then _ _ c.start_at-start.ensures c.in-Number.is
-          (section_then _ _ _ c.registers_at-first.ensures.result_value c.in-Section.is λ rs p.
-          nodes_then _ _ _ c.nodes_at-second.ensures.result_value c.in-Section-second.is λ ns q.
-          last_no _ _ _ c.roots_at-third.ensures c.in-Refused-third.is refl),
-      ((λ l ns m e d. no_layout e), ((λ l rs m e d. no_layout e), λ l e. no_layout e)),
-    ) in
-    record { result_value = the.0; nodes_kept = the.1; kinds_after = the.2; index_kept = the.3 }
+returns-in-Refused-third c = record {
+  result_value = number_then _ _ c.start_at-start.ensures c.in-Number.is
+      (section_then _ _ _ c.registers_at-first.ensures.result_value c.in-Section.is λ rs p.
+      nodes_then _ _ _ c.nodes_at-second.ensures.result_value c.in-Section-second.is λ ns q.
+      last_no _ _ _ c.roots_at-third.ensures c.in-Refused-third.is refl);
+  nodes_kept = (λ l ns m e d. no_layout e);
+  kinds_after = (λ l rs m e d. no_layout e);
+  index_kept = λ l e. no_layout e;
+}
 
 pub shape_of-keys-in-Refused-second : goal.shape_of-keys-in-Refused-second
 shape_of-keys-in-Refused-second c = c.keys-1.given
@@ -97,14 +94,14 @@ shape_of-entries-in-Refused-second c = c.entries-1.given
 
 pub returns-in-Refused-second : goal.returns-in-Refused-second
 unfolding layout_at
-returns-in-Refused-second c =
-    let the = (
-      number_then _ _ c.start_at-start.ensures c.in-Number.is
-          (section_then _ _ _ c.registers_at-first.ensures.result_value c.in-Section.is λ rs p.
-          nodes_stop _ _ _ c.nodes_at-second.ensures.result_value c.in-Refused-second.is refl),
-      ((λ l ns m e d. no_layout e), ((λ l rs m e d. no_layout e), λ l e. no_layout e)),
-    ) in
-    record { result_value = the.0; nodes_kept = the.1; kinds_after = the.2; index_kept = the.3 }
+returns-in-Refused-second c = record {
+  result_value = number_then _ _ c.start_at-start.ensures c.in-Number.is
+      (section_then _ _ _ c.registers_at-first.ensures.result_value c.in-Section.is λ rs p.
+      nodes_stop _ _ _ c.nodes_at-second.ensures.result_value c.in-Refused-second.is refl);
+  nodes_kept = (λ l ns m e d. no_layout e);
+  kinds_after = (λ l rs m e d. no_layout e);
+  index_kept = λ l e. no_layout e;
+}
 
 pub shape_of-keys-in-Refused-first : goal.shape_of-keys-in-Refused-first
 shape_of-keys-in-Refused-first c = c.keys-1.given
@@ -114,15 +111,18 @@ shape_of-kinds-in-Refused-first c = c.kinds-1.given
 
 pub returns-in-Refused-first : goal.returns-in-Refused-first
 unfolding layout_at
-returns-in-Refused-first c =
-    let the = (
-      number_then _ _ c.start_at-start.ensures c.in-Number.is (section_stop _ _ _ c.registers_at-first.ensures.result_value c.in-Refused-first.is refl),
-      ((λ l ns m e d. no_layout e), ((λ l rs m e d. no_layout e), λ l e. no_layout e)),
-    ) in
-    record { result_value = the.0; nodes_kept = the.1; kinds_after = the.2; index_kept = the.3 }
+returns-in-Refused-first c = record {
+  result_value = number_then _ _ c.start_at-start.ensures c.in-Number.is (section_stop _ _ _ c.registers_at-first.ensures.result_value c.in-Refused-first.is refl);
+  nodes_kept = (λ l ns m e d. no_layout e);
+  kinds_after = (λ l rs m e d. no_layout e);
+  index_kept = λ l e. no_layout e;
+}
 
 pub returns-in-Refused : goal.returns-in-Refused
 unfolding layout_at
-returns-in-Refused c =
-    let the = (number_stop _ _ c.start_at-start.ensures c.in-Refused.is refl, ((λ l ns m e d. no_layout e), ((λ l rs m e d. no_layout e), λ l e. no_layout e))) in
-    record { result_value = the.0; nodes_kept = the.1; kinds_after = the.2; index_kept = the.3 }
+returns-in-Refused c = record {
+  result_value = number_stop _ _ c.start_at-start.ensures c.in-Refused.is refl;
+  nodes_kept = (λ l ns m e d. no_layout e);
+  kinds_after = (λ l rs m e d. no_layout e);
+  index_kept = λ l e. no_layout e;
+}

@@ -6,9 +6,12 @@ use Rattle.reader.proofs.WholeLaws.{whole_long, whole_refused, whole_more, whole
 use Rattle.reader.proofs.file.whole.Goals as goal
 
 pub returns-then-bytes-s : goal.returns-then-bytes-s
-returns-then-bytes-s c =
-    let the = (whole_long _ _ c.bytes.ensures c.if-bytes-s.true refl, ((λ l ns m e d. no_layout e), ((λ l rs m e d. no_layout e), λ l e. no_layout e))) in
-    record { result_value = the.0; nodes_kept = the.1; kinds_after = the.2; index_kept = the.3 }
+returns-then-bytes-s c = record {
+  result_value = whole_long _ _ c.bytes.ensures c.if-bytes-s.true refl;
+  nodes_kept = (λ l ns m e d. no_layout e);
+  kinds_after = (λ l rs m e d. no_layout e);
+  index_kept = λ l e. no_layout e;
+}
 
 pub shape_of-keys-then-end-s : goal.shape_of-keys-then-end-s
 shape_of-keys-then-end-s c = c.keys-1.given
@@ -32,9 +35,12 @@ pub shape_of-entries-then-end-s : goal.shape_of-entries-then-end-s
 shape_of-entries-then-end-s c = c.entries-1.given
 
 pub returns-then-end-s : goal.returns-then-end-s
-returns-then-end-s c =
-    let the = (whole_more _ _ c.bytes.ensures c.if-bytes-s.false (sym (ap layout_parsed c.in-Done.is) ∙ c.layout-read.ensures.result_value) c.if-end-s.true refl, ((λ l ns m e d. no_layout e), ((λ l rs m e d. no_layout e), λ l e. no_layout e))) in
-    record { result_value = the.0; nodes_kept = the.1; kinds_after = the.2; index_kept = the.3 }
+returns-then-end-s c = record {
+  result_value = whole_more _ _ c.bytes.ensures c.if-bytes-s.false (sym (ap layout_parsed c.in-Done.is) ∙ c.layout-read.ensures.result_value) c.if-end-s.true refl;
+  nodes_kept = (λ l ns m e d. no_layout e);
+  kinds_after = (λ l rs m e d. no_layout e);
+  index_kept = λ l e. no_layout e;
+}
 
 pub shape_of-keys-else-end-s : goal.shape_of-keys-else-end-s
 shape_of-keys-else-end-s c = c.keys-1.given
@@ -58,12 +64,12 @@ pub shape_of-entries-else-end-s : goal.shape_of-entries-else-end-s
 shape_of-entries-else-end-s c = c.entries-1.given
 
 pub returns-else-end-s : goal.returns-else-end-s
-returns-else-end-s c =
-    let the = (
-      whole_done _ _ c.bytes.ensures c.if-bytes-s.false (sym (ap layout_parsed c.in-Done.is) ∙ c.layout-read.ensures.result_value) c.if-end-s.false refl,
-      ((λ l ns m e d. c.layout-read.ensures.nodes_kept.0 l ns m (c.in-Done.is ∙ e) d), ((λ l rs m e d. c.layout-read.ensures.nodes_kept.1.0 l rs m (c.in-Done.is ∙ e) d), λ l e. c.layout-read.ensures.nodes_kept.1.1 l (c.in-Done.is ∙ e))),
-    ) in
-    record { result_value = the.0; nodes_kept = the.1; kinds_after = the.2; index_kept = the.3 }
+returns-else-end-s c = record {
+  result_value = whole_done _ _ c.bytes.ensures c.if-bytes-s.false (sym (ap layout_parsed c.in-Done.is) ∙ c.layout-read.ensures.result_value) c.if-end-s.false refl;
+  nodes_kept = (λ l ns m e d. c.layout-read.ensures.nodes_kept l ns m (c.in-Done.is ∙ e) d);
+  kinds_after = (λ l rs m e d. c.layout-read.ensures.kinds_after l rs m (c.in-Done.is ∙ e) d);
+  index_kept = λ l e. c.layout-read.ensures.index_kept l (c.in-Done.is ∙ e);
+}
 
 pub shape_of-keys-in-Refused : goal.shape_of-keys-in-Refused
 shape_of-keys-in-Refused c = c.keys-1.given
@@ -87,6 +93,9 @@ pub shape_of-entries-in-Refused : goal.shape_of-entries-in-Refused
 shape_of-entries-in-Refused c = c.entries-1.given
 
 pub returns-in-Refused : goal.returns-in-Refused
-returns-in-Refused c =
-    let the = (whole_refused _ _ c.bytes.ensures c.if-bytes-s.false (sym (ap layout_parsed c.in-Refused.is) ∙ c.layout-read.ensures.result_value) refl, ((λ l ns m e d. no_layout e), ((λ l rs m e d. no_layout e), λ l e. no_layout e))) in
-    record { result_value = the.0; nodes_kept = the.1; kinds_after = the.2; index_kept = the.3 }
+returns-in-Refused c = record {
+  result_value = whole_refused _ _ c.bytes.ensures c.if-bytes-s.false (sym (ap layout_parsed c.in-Refused.is) ∙ c.layout-read.ensures.result_value) refl;
+  nodes_kept = (λ l ns m e d. no_layout e);
+  kinds_after = (λ l rs m e d. no_layout e);
+  index_kept = λ l e. no_layout e;
+}
