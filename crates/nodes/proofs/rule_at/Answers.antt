@@ -7,7 +7,7 @@ use Rattle.nodes.proofs.rule_at.Goals as goal
 
 pub returns-in-Next : goal.returns-in-Next
 unfolding levels
-returns-in-Next c before =
+returns-in-Next c before t =
     rule_told _ _ _ _ _ t
     (byte_then' _ _ _ c.new_attention_at-b.ensures c.in-Byte.is
     (twice _ _ _ (forgot_makes _ _ c.expression_at-e.ensures c.in-Next.is refl)))
