@@ -8,7 +8,7 @@
 //!
 //! Standard library only:
 //!
-//!     rustc -O examples/chipdata.rs -L native=target/staticlib -o chipdata
+//!     rustc -O examples/chipdata.rs -L native=crates/abi/out -o chipdata
 
 use std::fmt::{self, Display, Write as _};
 use std::fs::{self, File};

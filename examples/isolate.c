@@ -6,7 +6,7 @@
  *
  * A file that cannot be read counts as empty, as it does for the station. C99 or C++, with include/lutemarble.h:
  *
- *     cc -Iinclude examples/isolate.c target/staticlib/libabi.a -o isolate
+ *     cc -Iinclude examples/isolate.c crates/abi/out/libabi.a -o isolate
  */
 #include <errno.h>
 #include <inttypes.h>

@@ -9,7 +9,7 @@
 //! A file that cannot be read counts as empty, as it does for the station.
 //! Standard library only:
 //!
-//!     rustc -O examples/isolate.rs -L native=target/staticlib -o isolate
+//!     rustc -O examples/isolate.rs -L native=crates/abi/out -o isolate
 //!
 //! The module `lutemarble` has all seven calls as safe functions, to be copied.
 

@@ -1,7 +1,7 @@
 /* Lutemarble: reads chip data files and register readings, and names the active error bits.
  *
- * The calls of target/staticlib/libabi.a, which `rt staticlib abi` proves and writes, for C and C++ on x86-64 Linux.
- * docs/FORMAT.md says what the files, the refusals and the list are.
+ * The calls of crates/abi/out/libabi.a, which `rt lib --cpu x86-64` in crates/abi proves and writes, for C and C++ on x86-64
+ * Linux. docs/FORMAT.md says what the files, the refusals and the list are.
  *
  * What holds of every call:
  *

@@ -1,4 +1,4 @@
-//! Links the proved library, `target/staticlib/libabi.a` of the repository.
+//! Links the proved library, `crates/abi/out/libabi.a` of the repository.
 //! The variable LUTEMARBLE_STATICLIB names another folder that has it.
 
 use std::env;
@@ -9,13 +9,13 @@ fn main() {
     println!("cargo:rerun-if-env-changed=LUTEMARBLE_STATICLIB");
     let folder = match env::var_os("LUTEMARBLE_STATICLIB") {
         Some(folder) => PathBuf::from(folder),
-        None => PathBuf::from(env!("CARGO_MANIFEST_DIR")).join("../../target/staticlib"),
+        None => PathBuf::from(env!("CARGO_MANIFEST_DIR")).join("../../crates/abi/out"),
     };
     let library = folder.join("libabi.a");
     println!("cargo:rerun-if-changed={}", library.display());
     if !library.is_file() {
         eprintln!(
-            "{} is missing: run `rt staticlib abi` first",
+            "{} is missing: run `rt lib --cpu x86-64` in crates/abi first",
             library.display()
         );
         exit(1);
