@@ -1,10 +1,10 @@
-use Prim.Native.Nat.{ℕ, ◌≤◌}
+use Prim.Native.Nat.{ℕ, ◌+◌, ◌≤◌, ◌<◌}
 use mathlib.Core.Bool.{true}
 use mathlib.Core.List.{[], map}
 use mathlib.Core.Path.{◌≡◌, refl, sym, ◌∙◌, ap}
 use native.Mathlib.Omega.{arith}
 use borrow.Author.Rules.{rules}
-use lib.ListN.{length, length-set, length-replicate}
+use lib.ListN.{length, set, length-set, length-replicate}
 use lib.Seq.{length-take-le}
 use Rattle.tables.specs.Indexed.{places_for}
 use Rattle.limits.specs.Limits.{library_limits}
@@ -59,10 +59,16 @@ overflow_add-ids c = omega arith
 
 pub slice_bounds-ids-end-in-Element : goal.slice_bounds-ids-end-in-Element
 slice_bounds-ids-end-in-Element c =
-    omega (arith, array-write-ids c, length-set c.loop-left.ids c.loop-left.known c.in-Element.id)
+    let h = node_size _ _ c.loop-left.invariant.4.before _ (sym (ap element_parsed c.in-Element.is) ∙ c.node_at-e.ensures.result_value c.loop-left.invariant.4.indexed c.loop-left.invariant.4.before (elements_told _ _ _ _ nodes_none nodes_more c.loop-left.invariant.4) c.loop-left.invariant.4.counting.counted) in
+    let b : c.loop-left.known < length c.loop-left.ids = omega (arith, h.0, h.1, c.loop-left.invariant.4.counting.counted, c.loop-left.invariant.7) in
+    omega (arith, b, length-set c.loop-left.ids c.loop-left.known c.in-Element.id)
 
 pub slice_bounds-enter_ids-end : goal.slice_bounds-enter_ids-end
-slice_bounds-enter_ids-end c = sym (length-take-le _ _ (array-share-prefix-ids-2 c))
+slice_bounds-enter_ids-end c =
+    let h = node_size _ _ c.loop-left.invariant.4.before _ (sym (ap element_parsed c.in-Element.is) ∙ c.node_at-e.ensures.result_value c.loop-left.invariant.4.indexed c.loop-left.invariant.4.before (elements_told _ _ _ _ nodes_none nodes_more c.loop-left.invariant.4) c.loop-left.invariant.4.counting.counted) in
+    let b : c.loop-left.known < length c.loop-left.ids = omega (arith, h.0, h.1, c.loop-left.invariant.4.counting.counted, c.loop-left.invariant.7) in
+    let w : c.loop-left.known + 1 ≤ length (set c.loop-left.ids c.loop-left.known c.in-Element.id) = omega (arith, b, length-set c.loop-left.ids c.loop-left.known c.in-Element.id) in
+    sym (length-take-le _ _ w)
 
 pub slice_bounds-enter_ids-end-in-Element : goal.slice_bounds-enter_ids-end-in-Element
 slice_bounds-enter_ids-end-in-Element c = sym c.loop-left.invariant.1
@@ -94,12 +100,13 @@ pub loop-left-preserved : goal.loop-left-preserved
 loop-left-preserved c =
     let k = elements_told _ _ _ _ nodes_none nodes_more c.loop-left.invariant.4 in
     let z = sym (ap element_parsed c.in-Element.is) ∙ c.node_at-e.ensures.result_value c.loop-left.invariant.4.indexed c.loop-left.invariant.4.before k c.loop-left.invariant.4.counting.counted in
-    let h = node_size _ _ c.loop-left.invariant.4.before _ z in (
+    let h = node_size _ _ c.loop-left.invariant.4.before _ z in
+    let b : c.loop-left.known < length c.loop-left.ids = omega (arith, h.0, h.1, c.loop-left.invariant.4.counting.counted, c.loop-left.invariant.7) in (
       length-set c.loop-left.ids c.loop-left.known c.in-Element.id ∙ c.loop-left.invariant.0,
       c.index-in-Element-2-1.given,
       omega (arith, h.0),
       omega (arith, h.1, c.loop-left.invariant.4.counting.counted, c.loop-left.invariant.7),
-      elements_next _ _ _ _ nodes_none nodes_more c.loop-left.invariant.4 z c.loop-left-test.true (omega (arith, array-write-ids c, c.loop-left.invariant.0)) (omega (arith, c.loop-left.invariant.0)) c.enter_ids-entered.ensures c.larger-largest.ensures,
+      elements_next _ _ _ _ nodes_none nodes_more c.loop-left.invariant.4 z c.loop-left-test.true (omega (arith, b, c.loop-left.invariant.0)) (omega (arith, c.loop-left.invariant.0)) c.enter_ids-entered.ensures c.larger-largest.ensures,
       record { keys = c.keys-1.given ∙ c.loop-left.invariant.5.keys; kinds = c.kinds-1.given ∙ c.loop-left.invariant.5.kinds; places = c.places-1.given ∙ c.loop-left.invariant.5.places },
       filling_next _ _ _ c.loop-left.invariant.6 c.loop-left-test.true (node_next _ _ _ _ _ c.loop-left.invariant.4.before c.loop-left.invariant.4.counting.counted z (c.node_at-e.ensures.fact c.loop-left.invariant.4.indexed c.loop-left.invariant.4.before k c.loop-left.invariant.4.counting.counted)),
       c.loop-left.invariant.7,
