@@ -28,6 +28,4 @@ pub examine_with-requires : goal.examine_with-requires
 examine_with-requires t c = (omega arith, tt)
 
 pub returns : goal.returns
-returns t c =
-    let the = c.examine_with.ensures in
-    record { result_value = the.0; result_value_2 = the.1 }
+returns t c = record { result_value = c.examine_with.ensures.result_value; result_value_2 = c.examine_with.ensures.result_value_2 }
