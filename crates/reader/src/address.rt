@@ -37,7 +37,7 @@ pub fn address(file: &[u8], id: u64, number: u8) -> Address
 
 // The part of the file that holds the address of a register instance; an empty part where the query refuses.
 pub fn address_part(file: &[u8], id: u64, number: u8) -> &[u8]
-    ensures place { (result.ref_ptr.0 ≡ file.ref_ptr.0) × (result.ref_ptr.1 ≡ file.ref_ptr.1 + (address library_limits file.now id number).offset) }
+    ensures place { (result.ref_ptr.0 ≡ file.entry.ref_ptr.0) × (result.ref_ptr.1 ≡ file.entry.ref_ptr.1 + (address library_limits file.now id number).offset) }
     ensures content { result.now
         ≡ take (address library_limits file.now id number).size (drop (address library_limits file.now id number).offset file.now) }
 {
