@@ -186,7 +186,7 @@ overflow_add-result-in-Rows-t t c =
     let one = one-file t c c.if-file_lengths-eq0.false in
     let others = others-few t c c.if-file_lengths-eq0.false in
     let g = gathered_rows (length (mid_of 1 (length c.args.file-lengths.now - 1) c.args.file-lengths.now)) _ _ c.in-Rows-t.is c.find_slots-t.ensures.within in
-    omega (arith, first_steps c.args.attention c.args.slot c.args.file-lengths.now c.args.word-lengths.now c.args.read-lengths.now c.args.files.now c.args.words.now c.args.read.now one c.requires.word_lengths_len.0 c.requires.word_lengths_len.1 c.find-s.new.heads c.find-s.new.rows.0 c.in-Rows.is c.find-s.ensures.exact (λ i. (c.type_inv.files i).fits), g.3, others, c.requires.word_lengths_len.2, most_slots)
+    omega (arith, first_steps c.args.attention c.args.slot c.args.file-lengths.now c.args.word-lengths.now c.args.read-lengths.now c.args.files.now c.args.words.now c.args.read.now one c.requires.word_lengths_len.0 c.requires.word_lengths_len.1 c.find-s.new.heads c.find-s.new.rows c.in-Rows.is c.find-s.ensures.exact (λ i. (c.type_inv.files i).fits), g.3, others, c.requires.word_lengths_len.2, most_slots)
 
 pub shape_of-heads-in-Rows-t : goal.shape_of-heads-in-Rows-t
 shape_of-heads-in-Rows-t t c =
@@ -209,15 +209,15 @@ returns-in-Rows-t t c =
     let w = within_rows c.args.heads.now c.args.rows.now c.in-Rows.is c.find-s.ensures.within in
     let g = gathered_rows (length (mid_of 1 (length c.args.file-lengths.now - 1) c.args.file-lengths.now)) _ _ c.in-Rows-t.is c.find_slots-t.ensures.within in record {
       exact = λ h.
-          put_joined c.args.attention _ c.find-s.new.heads c.find-s.new.rows.0 c.find_slots-t.new.heads c.find_slots-t.new.rows.0 c.in-Rows.x.rows (omega (arith, w.1, c.heads-1.given)) (omega (arith, w.2, c.rows-1.given))
-          (later_joined c.args.attention c.args.slot c.args.file-lengths.now c.args.word-lengths.now c.args.read-lengths.now c.args.files.now c.args.words.now c.args.read.now one c.requires.word_lengths_len.0 c.requires.word_lengths_len.1 c.find-s.new.heads c.find-s.new.rows.0 c.in-Rows.is c.find-s.ensures.exact c.find_slots-t.new.heads c.find_slots-t.new.rows.0 (omega (arith, w.1, c.heads-1.given)) (omega (arith, w.2, c.rows-1.given)) c.in-Rows-t.is
+          put_joined c.args.attention _ c.find-s.new.heads c.find-s.new.rows c.find_slots-t.new.heads c.find_slots-t.new.rows c.in-Rows.x.rows (omega (arith, w.1, c.heads-1.given)) (omega (arith, w.2, c.rows-1.given))
+          (later_joined c.args.attention c.args.slot c.args.file-lengths.now c.args.word-lengths.now c.args.read-lengths.now c.args.files.now c.args.words.now c.args.read.now one c.requires.word_lengths_len.0 c.requires.word_lengths_len.1 c.find-s.new.heads c.find-s.new.rows c.in-Rows.is c.find-s.ensures.exact c.find_slots-t.new.heads c.find_slots-t.new.rows (omega (arith, w.1, c.heads-1.given)) (omega (arith, w.2, c.rows-1.given)) c.in-Rows-t.is
           (λ h. c.find_slots-t.ensures.exact h ∙ rest_is c.args.attention c.args.slot c.args.file-lengths.now c.args.word-lengths.now c.args.read-lengths.now c.args.files.now c.args.words.now c.args.read.now one c.requires.word_lengths_len.0 c.requires.word_lengths_len.1 (mid_rest c.args.file-lengths.now 1 one) (mid_rest c.args.word-lengths.now 1 one-w) (mid_rest c.args.read-lengths.now 1 one-r) (mid_rest c.args.files.now _ in-files) (mid_rest c.args.words.now _ in_words_lem) (mid_rest c.args.read.now _ in-read)));
       enough = λ p q. refl;
       within = (
         omega (arith, w.0, g.0, others),
         omega (arith, w.1, g.1, mid-length c.find-s.new.heads c.in-Rows.x.rows (omega (arith, w.1, c.heads-1.given)), c.heads-1.given),
-        omega (arith, w.2, g.2, mid-length c.find-s.new.rows.0 c.in-Rows.x.rows (omega (arith, w.2, c.rows-1.given)), c.rows-1.given),
-        omega (arith, first_steps c.args.attention c.args.slot c.args.file-lengths.now c.args.word-lengths.now c.args.read-lengths.now c.args.files.now c.args.words.now c.args.read.now one c.requires.word_lengths_len.0 c.requires.word_lengths_len.1 c.find-s.new.heads c.find-s.new.rows.0 c.in-Rows.is c.find-s.ensures.exact (λ i. (c.type_inv.files i).fits), g.3, others),
+        omega (arith, w.2, g.2, mid-length c.find-s.new.rows c.in-Rows.x.rows (omega (arith, w.2, c.rows-1.given)), c.rows-1.given),
+        omega (arith, first_steps c.args.attention c.args.slot c.args.file-lengths.now c.args.word-lengths.now c.args.read-lengths.now c.args.files.now c.args.words.now c.args.read.now one c.requires.word_lengths_len.0 c.requires.word_lengths_len.1 c.find-s.new.heads c.find-s.new.rows c.in-Rows.is c.find-s.ensures.exact (λ i. (c.type_inv.files i).fits), g.3, others),
       );
     }
 
@@ -240,10 +240,10 @@ returns-in-Refused-t t c =
     let others = others-few t c c.if-file_lengths-eq0.false in
     let w = within_rows c.args.heads.now c.args.rows.now c.in-Rows.is c.find-s.ensures.within in
     record {
-      exact = λ h. later_stopped c.args.attention c.args.slot c.args.file-lengths.now c.args.word-lengths.now c.args.read-lengths.now c.args.files.now c.args.words.now c.args.read.now one c.requires.word_lengths_len.0 c.requires.word_lengths_len.1 c.find-s.new.heads c.find-s.new.rows.0 c.in-Rows.is c.find-s.ensures.exact c.find_slots-t.new.heads c.find_slots-t.new.rows.0 c.find_slots-t.new.heads c.find_slots-t.new.rows.0 c.in-Refused-t.is (λ h. c.find_slots-t.ensures.exact h ∙ rest_is c.args.attention c.args.slot c.args.file-lengths.now c.args.word-lengths.now c.args.read-lengths.now c.args.files.now c.args.words.now c.args.read.now one c.requires.word_lengths_len.0 c.requires.word_lengths_len.1 (mid_rest c.args.file-lengths.now 1 one) (mid_rest c.args.word-lengths.now 1 one-w) (mid_rest c.args.read-lengths.now 1 one-r) (mid_rest c.args.files.now _ in-files) (mid_rest c.args.words.now _ in_words_lem) (mid_rest c.args.read.now _ in-read)) h;
+      exact = λ h. later_stopped c.args.attention c.args.slot c.args.file-lengths.now c.args.word-lengths.now c.args.read-lengths.now c.args.files.now c.args.words.now c.args.read.now one c.requires.word_lengths_len.0 c.requires.word_lengths_len.1 c.find-s.new.heads c.find-s.new.rows c.in-Rows.is c.find-s.ensures.exact c.find_slots-t.new.heads c.find_slots-t.new.rows c.find_slots-t.new.heads c.find_slots-t.new.rows c.in-Refused-t.is (λ h. c.find_slots-t.ensures.exact h ∙ rest_is c.args.attention c.args.slot c.args.file-lengths.now c.args.word-lengths.now c.args.read-lengths.now c.args.files.now c.args.words.now c.args.read.now one c.requires.word_lengths_len.0 c.requires.word_lengths_len.1 (mid_rest c.args.file-lengths.now 1 one) (mid_rest c.args.word-lengths.now 1 one-w) (mid_rest c.args.read-lengths.now 1 one-r) (mid_rest c.args.files.now _ in-files) (mid_rest c.args.words.now _ in_words_lem) (mid_rest c.args.read.now _ in-read)) h;
       enough = λ p q.
           stopped-gathered _ c.in-Refused-t.is
-          (c.find_slots-t.ensures.enough (omega (arith, p, w.0, w.1, c.heads-1.given, mid-length c.find-s.new.heads c.in-Rows.x.rows (omega (arith, w.1, c.heads-1.given)), others)) (omega (arith, q, w.0, w.2, c.rows-1.given, mid-length c.find-s.new.rows.0 c.in-Rows.x.rows (omega (arith, w.2, c.rows-1.given)), others)));
+          (c.find_slots-t.ensures.enough (omega (arith, p, w.0, w.1, c.heads-1.given, mid-length c.find-s.new.heads c.in-Rows.x.rows (omega (arith, w.1, c.heads-1.given)), others)) (omega (arith, q, w.0, w.2, c.rows-1.given, mid-length c.find-s.new.rows c.in-Rows.x.rows (omega (arith, w.2, c.rows-1.given)), others)));
       within = tt;
     }
 
@@ -257,7 +257,7 @@ pub returns-in-Refused : goal.returns-in-Refused
 returns-in-Refused t c =
     let one = one-file t c c.if-file_lengths-eq0.false in
     record {
-      exact = λ h. slot_stopped c.args.attention c.args.slot c.args.file-lengths.now c.args.word-lengths.now c.args.read-lengths.now c.args.files.now c.args.words.now c.args.read.now one c.requires.word_lengths_len.0 c.requires.word_lengths_len.1 c.find-s.new.heads c.find-s.new.rows.0 c.in-Refused.is c.find-s.ensures.exact h;
+      exact = λ h. slot_stopped c.args.attention c.args.slot c.args.file-lengths.now c.args.word-lengths.now c.args.read-lengths.now c.args.files.now c.args.words.now c.args.read.now one c.requires.word_lengths_len.0 c.requires.word_lengths_len.1 c.find-s.new.heads c.find-s.new.rows c.in-Refused.is c.find-s.ensures.exact h;
       enough = λ p q. stopped_found _ c.in-Refused.is (c.find-s.ensures.enough (omega (arith, p, one)) (omega (arith, q, one)));
       within = tt;
     }

@@ -54,7 +54,7 @@ returns-in-Refused c =
     let b = board_of c.args.files.now c.args.file-lengths.now c.args.words.now c.args.word-lengths.now c.args.read.now c.args.read-lengths.now in
     let f = fitting b c.requires in
     record {
-      exact = λ h. slot_answered c.args.attention c.in-Refused.r c.in-Refused.slot c.find_slots-g.new.heads c.find_slots-g.new.rows.0 _ (stopped_is c.args.attention b c.find_slots-g.result c.find_slots-g.new.heads c.find_slots-g.new.rows.0 c.find_slots-g.ensures.exact c.in-Refused.r c.in-Refused.slot c.in-Refused.is h);
+      exact = λ h. slot_answered c.args.attention c.in-Refused.r c.in-Refused.slot c.find_slots-g.new.heads c.find_slots-g.new.rows _ (stopped_is c.args.attention b c.find_slots-g.result c.find_slots-g.new.heads c.find_slots-g.new.rows c.find_slots-g.ensures.exact c.in-Refused.r c.in-Refused.slot c.in-Refused.is h);
       kept = λ h. refl;
-      enough = λ p q. stopped_enough c.args.attention b c.find_slots-g.result c.find_slots-g.new.heads c.find_slots-g.new.rows.0 c.find_slots-g.ensures.exact c.in-Refused.r c.in-Refused.slot c.in-Refused.is (c.find_slots-g.ensures.enough (enough_rows b f p) (enough_rows b f q));
+      enough = λ p q. stopped_enough c.args.attention b c.find_slots-g.result c.find_slots-g.new.heads c.find_slots-g.new.rows c.find_slots-g.ensures.exact c.in-Refused.r c.in-Refused.slot c.in-Refused.is (c.find_slots-g.ensures.enough (enough_rows b f p) (enough_rows b f q));
     }

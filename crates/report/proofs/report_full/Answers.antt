@@ -8,7 +8,7 @@ use borrow.Author.Rules.{rules}
 use Rattle.report.proofs.report_full.Goals as goal
 
 pub put_answer-requires : goal.put_answer-requires
-put_answer-requires c = answer_room _ _ _ 65536 c.isolate_file-a.result c.isolate_file-a.new.list.0 c.isolate_file-a.ensures (omega arith) c.list-2-1.given
+put_answer-requires c = answer_room _ _ _ 65536 c.isolate_file-a.result c.isolate_file-a.new.list c.isolate_file-a.ensures (omega arith) c.list-2-1.given
 
 pub returns : goal.returns
 unfolding report station_list

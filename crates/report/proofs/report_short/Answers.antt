@@ -14,12 +14,12 @@ returns-then-lacks_room c = record {
 }
 
 pub put_answer-requires : goal.put_answer-requires
-put_answer-requires c = answer_room _ _ _ 2048 c.isolate_file-a.result c.isolate_file-a.new.list.0 c.isolate_file-a.ensures (omega arith) c.list-2-1.given
+put_answer-requires c = answer_room _ _ _ 2048 c.isolate_file-a.result c.isolate_file-a.new.list c.isolate_file-a.ensures (omega arith) c.list-2-1.given
 
 pub returns : goal.returns
 unfolding report station_list
 returns c = record {
-  put = λ h. put_as c.put_answer.ensures.put (answer_text _ _ _ 2048 c.isolate_file-a.result c.isolate_file-a.new.list.0 c.isolate_file-a.ensures (λ i. (c.type_inv.file i).fits) 65536 (omega arith) c.lacks_room.ensures c.if-lacks_room.false);
+  put = λ h. put_as c.put_answer.ensures.put (answer_text _ _ _ 2048 c.isolate_file-a.result c.isolate_file-a.new.list c.isolate_file-a.ensures (λ i. (c.type_inv.file i).fits) 65536 (omega arith) c.lacks_room.ensures c.if-lacks_room.false);
   text_unchanged = λ e. put_none c.put_answer.ensures.put e;
   upper_bound = c.put_answer.ensures.upper_bound;
 }

@@ -40,10 +40,10 @@ pub returns-then-has_room : goal.returns-then-has_room
 returns-then-has_room c =
     let r = has-room _ _ _ _ _ _ _ c.has_room.ensures c.if-has_room.true in
     let h : length (c.by_tables.new.places ++ drop c.args.l.node_instances c.args.places.now) ≡ length c.args.places.now = search rules in
-    let g : length (c.by_tables.new.unread.0 ++ drop c.args.l.node_instances c.args.unread.now) ≡ length c.args.unread.now = search rules in record {
+    let g : length (c.by_tables.new.unread ++ drop c.args.l.node_instances c.args.unread.now) ≡ length c.args.unread.now = search rules in record {
       unread_after = λ of x.
           answer_is _ _ _ _ _ _ _ r _ _
-          (cut_found c.by_tables.result c.args.places.now c.args.unread.now c.args.l.node_instances r.places_in r.unread-in c.by_tables.ensures.rows_within c.args.attention c.by_tables.new.places c.by_tables.new.unread.0 h g
+          (cut_found c.by_tables.result c.args.places.now c.args.unread.now c.args.l.node_instances r.places_in r.unread-in c.by_tables.ensures.rows_within c.args.attention c.by_tables.new.places c.by_tables.new.unread h g
           (c.by_tables.ensures.unread_after of (cut_tabled of _ _ _ _ _ _ _ x) x.model x.roots));
       rows_within = cut_within c.by_tables.result c.args.places.now c.args.unread.now c.args.l.node_instances r.places_in r.unread-in c.by_tables.ensures.rows_within;
     }
