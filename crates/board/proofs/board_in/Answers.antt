@@ -39,7 +39,7 @@ slice_bounds-write_rows-end-in-Rows-3 c =
 
 pub returns-in-Rows : goal.returns-in-Rows
 returns-in-Rows c =
-    let b = board_of c.args.files.now c.args.file-lengths.now c.args.words.now c.args.word-lengths.now c.args.read.now c.args.read-lengths.now in
+    let b = board_of c.args.files.now c.args.file_lengths.now c.args.words.now c.args.word_lengths.now c.args.read.now c.args.read_lengths.now in
     let f = fitting b c.requires in
     let g = gathered_rows _ c.args.heads.now c.args.rows.now c.in-Rows.is c.find_slots-g.ensures.within in
     let w = c.write_rows-answer.ensures (few_rows b f _ _ g.0 (omega (arith, g.1, c.heads-1.given))) in
@@ -51,7 +51,7 @@ returns-in-Rows c =
 
 pub returns-in-Refused : goal.returns-in-Refused
 returns-in-Refused c =
-    let b = board_of c.args.files.now c.args.file-lengths.now c.args.words.now c.args.word-lengths.now c.args.read.now c.args.read-lengths.now in
+    let b = board_of c.args.files.now c.args.file_lengths.now c.args.words.now c.args.word_lengths.now c.args.read.now c.args.read_lengths.now in
     let f = fitting b c.requires in
     record {
       exact = λ h. slot_answered c.args.attention c.in-Refused.r c.in-Refused.slot c.find_slots-g.new.heads c.find_slots-g.new.rows _ (stopped_is c.args.attention b c.find_slots-g.result c.find_slots-g.new.heads c.find_slots-g.new.rows c.find_slots-g.ensures.exact c.in-Refused.r c.in-Refused.slot c.in-Refused.is h);
