@@ -21,6 +21,6 @@ returns-in-Done c = record {
 
 pub returns-in-Refused : goal.returns-in-Refused
 returns-in-Refused c = record {
-      put = put_as c.put_refused.ensures.put (ap (λ n. refused_line n c.in-Refused.r.place) c.number.ensures ∙ refused_text (kind_some c.in-Refused.r.kind) (sym (ap (λ c.a-in-Refused-1.given. outcome_of c.a-in-Refused-1.given c.args.list.now) c.in-Refused.is)));
+      put = put_as c.put_refused.ensures.put (ap (λ n. refused_line n c.in-Refused.r.place) c.number.ensures ∙ refused_text (kind_some c.in-Refused.r.kind) (sym (ap (λ a. outcome_of a c.args.list.now) c.in-Refused.is)));
       upper_bound = c.put_refused.ensures.upper_bound;
     }

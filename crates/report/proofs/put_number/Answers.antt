@@ -10,4 +10,4 @@ put-requires c =
 
 pub returns : goal.returns
 returns c =
-    put_as c.put.ensures (digits_decimal _ _ c.decimal-k.ensures.len (omega arith) c.decimal-k.ensures.1.1)
+    put_as c.put.ensures (digits_decimal _ _ c.decimal-k.ensures.len (omega arith) c.decimal-k.ensures.digits)
