@@ -35,8 +35,8 @@ pub fn put_row(
     place: u64,
 )
     ensures { ◌≡◌ {A = Rows}
-        (record { keys = keys.exit.now; kinds = kinds.new; places = places.new })
-        (put_row (record { keys = keys.entry.now; kinds = kinds.old; places = places.old }) k (record { key = key; kind = kind; place = place })) }
+        (record { keys = keys.new; kinds = kinds.new; places = places.new })
+        (put_row (record { keys = keys.old; kinds = kinds.old; places = places.old }) k (record { key = key; kind = kind; place = place })) }
 {
     tables::put(keys, k, key);
     tables::put(kinds, k, kind);

@@ -40,8 +40,8 @@ fn instances_at(
     ensures fact { (is : List NodeInstance) (m : ℕ)
         → row_at (node_instance_at limit s.now true total) count [] at ≡ done is m
         → ◌≡◌ {A = Rows}
-        (record { keys = keys.exit.now; kinds = kinds.new; places = places.new })
-        (filled (record { keys = keys.entry.now; kinds = kinds.old; places = places.old }) total (map (λ i. row_of id code i.number i.place) is)) }
+        (record { keys = keys.new; kinds = kinds.new; places = places.new })
+        (filled (record { keys = keys.old; kinds = kinds.old; places = places.old }) total (map (λ i. row_of id code i.number i.place) is)) }
 {
     let mut seen = [0u8; 256];
     let mut begun = total;
@@ -100,8 +100,8 @@ fn node_at(
         → (n : Node) (m : ℕ)
         → node_at limit s.now true before at ≡ done n m
         → ◌≡◌ {A = Rows}
-        (record { keys = keys.exit.now; kinds = kinds.new; places = places.new })
-        (filled (record { keys = keys.entry.now; kinds = kinds.old; places = places.old }) total (map node_row (node_entries_of n))) }
+        (record { keys = keys.new; kinds = kinds.new; places = places.new })
+        (filled (record { keys = keys.old; kinds = kinds.old; places = places.old }) total (map node_row (node_entries_of n))) }
 {
     let top = node_head_at(s, at, ids, index, entered, largest);
     match top {
@@ -135,8 +135,8 @@ fn rows_at(
     ensures fact { (ns : List Node) (m : ℕ)
         → row_at (node_at limit s.now true) n [] at ≡ done ns m
         → ◌≡◌ {A = Rows}
-        (record { keys = keys.exit.now; kinds = kinds.new; places = places.new })
-        (filled (record { keys = keys.entry.now; kinds = kinds.old; places = places.old }) 0 (map node_row (gathered node_entries_of ns))) }
+        (record { keys = keys.new; kinds = kinds.new; places = places.new })
+        (filled (record { keys = keys.old; kinds = kinds.old; places = places.old }) 0 (map node_row (gathered node_entries_of ns))) }
 {
     let mut ids = [0u64; limits::NODE_INSTANCES];
     let mut index = [0u16; NODE_PLACES];
@@ -192,8 +192,8 @@ fn section_at(
     ensures fact { (ns : List Node) (m : ℕ)
         → nodes_at limit s.now true at ≡ done ns m
         → ◌≡◌ {A = Rows}
-        (record { keys = keys.exit.now; kinds = kinds.new; places = places.new })
-        (filled (record { keys = keys.entry.now; kinds = kinds.old; places = places.old }) 0 (map node_row (gathered node_entries_of ns))) }
+        (record { keys = keys.new; kinds = kinds.new; places = places.new })
+        (filled (record { keys = keys.old; kinds = kinds.old; places = places.old }) 0 (map node_row (gathered node_entries_of ns))) }
 {
     let k = keyword_at(s, at, &format::NODE);
     match k {
@@ -229,8 +229,8 @@ pub fn nodes_at(
     ensures fact { (ns : List Node) (m : ℕ)
         → nodes_at (limits_of of).node_instances s.now true at ≡ done ns m
         → ◌≡◌ {A = Rows}
-        (record { keys = keys.exit.now; kinds = kinds.new; places = places.new })
-        (filled (record { keys = keys.entry.now; kinds = kinds.old; places = places.old }) 0 (map node_row (gathered node_entries_of ns))) }
+        (record { keys = keys.new; kinds = kinds.new; places = places.new })
+        (filled (record { keys = keys.old; kinds = kinds.old; places = places.old }) 0 (map node_row (gathered node_entries_of ns))) }
 {
     section_at(s, at, node_instances(of), keys, kinds, places)
 }

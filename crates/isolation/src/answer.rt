@@ -2,7 +2,7 @@
 ghost use Rattle.std.specs.Prelude.{true, cond, ◌≡◌, length};
 ghost use Rattle.limits.specs.declared.LimitSet.{LimitSet};
 ghost use Rattle.limits.specs.Limits.{limits_of};
-ghost use Rattle.format.specs.FileLayout.{roots_at};
+ghost use Rattle.format.specs.FileLayout.{roots_at as roots_from};
 ghost use Rattle.format.specs.Parsed.{done};
 ghost use Rattle.reader.specs.Examined.{Examined};
 ghost use Rattle.isolation.specs.Outcome.{outcome_of, refused_outcome, is_exact, stopped, find, isolate};
@@ -77,7 +77,7 @@ fn by_tables(
     requires { (length active.old ≡ length places.old) × (length unread.old ≡ length places.old) }
     ensures unread_after { (of : LimitSet) (t : Tabled of file.now keys.now index.now nodes.now places.old children.now)
         → model ≡ t.chip.model
-        → roots_at file.now true roots_at ≡ done t.chip.roots t.end
+        → roots_from file.now true roots_at ≡ done t.chip.roots t.end
         → found_of attention result places.new unread.new ≡ find (limits_of of) slot file.now attention words.now read.now }
     ensures rows_within { RowsWithin result places.old unread.old }
 {

@@ -209,8 +209,8 @@ fn instances_pass(
     children: &mut [u64],
 ) -> Pass
     requires { (length s.now ≤ 0x100000000) × (total + count ≤ limit) }
-    ensures { IndexOf index.now keys.entry.now → (result.next ≡ 0 → ⊥)
-        → InstancesPassed limit s.now keys.entry.now kinds.now id kind count total at
+    ensures { IndexOf index.now keys.now → (result.next ≡ 0 → ⊥)
+        → InstancesPassed limit s.now keys.now kinds.now id kind count total at
         (record { keys = names.old; kinds = wanted.old; places = places.old }) children.old
         (record { keys = names.new; kinds = wanted.new; places = places.new }) children.new result }
 {
@@ -301,8 +301,8 @@ fn nodes_pass(
     children: &mut [u64],
 ) -> NodesPass
     requires { length s.now ≤ 0x100000000 }
-    ensures { IndexOf index.now keys.entry.now → (result.next ≡ 0 → ⊥)
-        → NodesPassed limit s.now keys.entry.now kinds.now n at
+    ensures { IndexOf index.now keys.now → (result.next ≡ 0 → ⊥)
+        → NodesPassed limit s.now keys.now kinds.now n at
         (record { keys = names.old; kinds = wanted.old; places = places.old }) children.old
         (record { keys = names.new; kinds = wanted.new; places = places.new }) children.new result }
 {

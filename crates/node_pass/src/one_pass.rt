@@ -28,8 +28,8 @@ fn listed_pass(
     children: &mut [u64],
 ) -> NodesPass
     requires { (length s.now ≤ 0x100000000) × (limit ≤ library_limits.node_instances) }
-    ensures { IndexOf index.now keys.entry.now → (result.next ≡ 0 → ⊥)
-        → NodesPassed limit s.now keys.entry.now kinds.now n at
+    ensures { IndexOf index.now keys.now → (result.next ≡ 0 → ⊥)
+        → NodesPassed limit s.now keys.now kinds.now n at
         (record { keys = names.old; kinds = wanted.old; places = places.old }) children.old
         (record { keys = names.new; kinds = wanted.new; places = places.new }) children.new result }
 {
@@ -113,8 +113,8 @@ fn rows_pass(
     children: &mut [u64],
 ) -> NodesPass
     requires { (length s.now ≤ 0x100000000) × (limit ≤ library_limits.node_instances) }
-    ensures { IndexOf index.now keys.entry.now → (result.next ≡ 0 → ⊥)
-        → RowsPassed limit s.now keys.entry.now kinds.now n at
+    ensures { IndexOf index.now keys.now → (result.next ≡ 0 → ⊥)
+        → RowsPassed limit s.now keys.now kinds.now n at
         (record { keys = names.old; kinds = wanted.old; places = places.old }) children.old
         (record { keys = names.new; kinds = wanted.new; places = places.new }) children.new result }
 {
@@ -144,8 +144,8 @@ fn section_pass(
     children: &mut [u64],
 ) -> SectionPass
     requires { limit ≤ library_limits.node_instances }
-    ensures { IndexOf index.now keys.entry.now → (result.next ≡ 0 → ⊥)
-        → SectionPassed limit s.now keys.entry.now kinds.now at
+    ensures { IndexOf index.now keys.now → (result.next ≡ 0 → ⊥)
+        → SectionPassed limit s.now keys.now kinds.now at
         (record { keys = names.old; kinds = wanted.old; places = places.old }) children.old
         (record { keys = names.new; kinds = wanted.new; places = places.new }) children.new result }
 {
@@ -194,8 +194,8 @@ pub fn pass_at(
     places: &mut [u64],
     children: &mut [u64],
 ) -> SectionPass
-    ensures { IndexOf index.now keys.entry.now → (result.next ≡ 0 → ⊥)
-        → SectionPassed (limits_of of).node_instances s.now keys.entry.now kinds.now at
+    ensures { IndexOf index.now keys.now → (result.next ≡ 0 → ⊥)
+        → SectionPassed (limits_of of).node_instances s.now keys.now kinds.now at
         (record { keys = names.old; kinds = wanted.old; places = places.old }) children.old
         (record { keys = names.new; kinds = wanted.new; places = places.new }) children.new result }
 {

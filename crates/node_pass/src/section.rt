@@ -86,7 +86,7 @@ pub fn nodes_at(
     ensures nodes_kept { (p : SectionPass) (ns : List Node) (end : ℕ)
         → result ≡ NodesRead.Section p
         → nodes_at (limits_of of).node_instances s.now true at ≡ done ns end
-        → NodesKept m keys.entry.now kinds.now
+        → NodesKept m keys.now kinds.now
         (record { keys = names.old; kinds = wanted.old; places = places.old }) entries.old
         (record { keys = names.new; kinds = wanted.new; places = places.new }) entries.new p.fits ns }
     ensures index_kept { IndexKept m keys.now kinds.now index.new }

@@ -4,7 +4,7 @@ ghost use Rattle.numbers.specs.BigEndian.{Bytes};
 ghost use Rattle.limits.specs.declared.LimitSet.{LimitSet};
 ghost use Rattle.limits.specs.Limits.{limits_of};
 ghost use Rattle.format.specs.Cycles.{cycle_faults};
-ghost use Rattle.format.specs.FileLayout.{roots_at, file_at};
+ghost use Rattle.format.specs.FileLayout.{roots_at as roots_from, file_at};
 ghost use Rattle.format.specs.Lookup.{gathered, node_entries};
 ghost use Rattle.format.specs.Parsed.{done};
 ghost use Rattle.format.specs.References.{reference_faults};
@@ -42,7 +42,7 @@ fn exact_faults(
 ) -> NextRead
     ensures result_value { (of : LimitSet) (c : Chip) (end : ℕ)
         → file_at (limits_of of) s.now true 0 ≡ done c end
-        → roots_at s.now true roots_at ≡ done c.roots end
+        → roots_from s.now true roots_at ≡ done c.roots end
         → TablesOf c keys.now kinds.now nodes.now wanted.now places.now
         → IndexOf index.now keys.now
         → IndexOf node_index.now nodes.now
@@ -81,7 +81,7 @@ fn name_faults(
 ) -> NextRead
     ensures result_value { (of : LimitSet) (c : Chip) (end : ℕ)
         → file_at (limits_of of) s.now true 0 ≡ done c end
-        → roots_at s.now true roots_at ≡ done c.roots end
+        → roots_from s.now true roots_at ≡ done c.roots end
         → TablesOf c keys.now kinds.now nodes.now wanted.now places.now
         → EntriesOf c keys.now kinds.now entries.now
         → IndexOf index.now keys.now
@@ -148,7 +148,7 @@ pub fn table_faults(
 ) -> NextRead
     ensures result_value { (of : LimitSet) (c : Chip) (end : ℕ)
         → file_at (limits_of of) s.now true 0 ≡ done c end
-        → roots_at s.now true roots_at ≡ done c.roots end
+        → roots_from s.now true roots_at ≡ done c.roots end
         → TablesOf c keys.now kinds.now nodes.now wanted.now places.now
         → EntriesOf c keys.now kinds.now entries.now
         → IndexOf index.now keys.now

@@ -36,7 +36,7 @@ fn layout(
     ensures nodes_kept { (l : Layout) (ns : List Node) (m : ℕ)
         → result ≡ LayoutRead.Done l
         → nodes_at (limits_of of).node_instances s.now true l.nodes_at ≡ done ns m
-        → NodesKept l.register_instances keys.exit.now kinds.new
+        → NodesKept l.register_instances keys.new kinds.new
         (record { keys = names.old; kinds = wanted.old; places = places.old }) entries.old
         (record { keys = names.new; kinds = wanted.new; places = places.new }) entries.new l.fits ns }
     ensures kinds_after { (l : Layout) (rs : List Register) (m : ℕ)
@@ -112,7 +112,7 @@ pub fn whole(
     ensures nodes_kept { (l : Layout) (ns : List Node) (m : ℕ)
         → result ≡ LayoutRead.Done l
         → nodes_at (limits_of of).node_instances s.now true l.nodes_at ≡ done ns m
-        → NodesKept l.register_instances keys.exit.now kinds.new
+        → NodesKept l.register_instances keys.new kinds.new
         (record { keys = names.old; kinds = wanted.old; places = places.old }) entries.old
         (record { keys = names.new; kinds = wanted.new; places = places.new }) entries.new l.fits ns }
     ensures kinds_after { (l : Layout) (rs : List Register) (m : ℕ)

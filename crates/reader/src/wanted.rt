@@ -2,7 +2,7 @@
 ghost use Rattle.std.specs.Prelude.{ℕ, true, [], ◌∷◌, ◌≡◌};
 ghost use Rattle.limits.specs.declared.LimitSet.{LimitSet};
 ghost use Rattle.limits.specs.Limits.{limits_of};
-ghost use Rattle.format.specs.FileLayout.{roots_at};
+ghost use Rattle.format.specs.FileLayout.{roots_at as roots_from};
 ghost use Rattle.format.specs.Finding.{rule_for, root_for};
 ghost use Rattle.format.specs.Lookup.{at, NodeEntry, node_entries};
 ghost use Rattle.format.specs.Parsed.{done};
@@ -18,7 +18,7 @@ use references::roots::root_position;
 pub fn wanted_root(s: &[u8], roots_at: usize, attention: u8, names: &[u64]) -> usize
     ensures { (of : LimitSet) (c : Chip) (end : ℕ)
         → verdict (limits_of of) s.now ≡ done c end
-        → roots_at s.now true roots_at ≡ done c.roots end
+        → roots_from s.now true roots_at ≡ done c.roots end
         → names.now ≡ node_keys c
         → result ≡ root_place c (root_for attention c) }
 {

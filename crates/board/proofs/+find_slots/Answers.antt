@@ -54,7 +54,7 @@ pub slice_bounds-find-end : goal.slice_bounds-find-end
 slice_bounds-find-end t c = sym (length-take-le _ _ (file-within t c c.if-file_lengths-eq0.false))
 
 pub overflow_cast-slot : goal.overflow_cast-slot
-overflow_cast-slot t c = omega (arith, one-file t c c.if-file_lengths-eq0.false, c.requires.word_lengths_len.1.2, most_slots)
+overflow_cast-slot t c = omega (arith, one-file t c c.if-file_lengths-eq0.false, c.requires.word_lengths_len.2, most_slots)
 
 pub slice_bounds-find-end-2 : goal.slice_bounds-find-end-2
 slice_bounds-find-end-2 t c = sym (length-take-le _ _ (words-within t c c.if-file_lengths-eq0.false))
@@ -122,7 +122,7 @@ pub slice_bounds-find_slots-end-in-Rows-5 : goal.slice_bounds-find_slots-end-in-
 slice_bounds-find_slots-end-in-Rows-5 t c = omega (arith, one-read t c c.if-file_lengths-eq0.false)
 
 pub overflow_add-slot : goal.overflow_add-slot
-overflow_add-slot t c = omega (arith, one-file t c c.if-file_lengths-eq0.false, c.requires.word_lengths_len.1.2, most_slots)
+overflow_add-slot t c = omega (arith, one-file t c c.if-file_lengths-eq0.false, c.requires.word_lengths_len.2, most_slots)
 
 pub offset_bounds-heads-n : goal.offset_bounds-heads-n
 offset_bounds-heads-n t c =
@@ -169,8 +169,8 @@ find_slots-t-requires t c =
     let others = others-few t c c.if-file_lengths-eq0.false in (
       omega (arith, others, c.requires.file_lengths_value),
       (
-        (others_total c.args.file-lengths.now c.args.file-lengths.now c.args.files.now c.if-file_lengths-eq0.false refl c.requires.word_lengths_len.0.0, others_total c.args.file-lengths.now c.args.word-lengths.now c.args.words.now c.if-file_lengths-eq0.false c.requires.word_lengths_len.1.0 c.requires.word_lengths_len.0.1, others_total c.args.file-lengths.now c.args.read-lengths.now c.args.read.now c.if-file_lengths-eq0.false c.requires.word_lengths_len.1.1 c.requires.word_lengths_len.0.2),
-        (omega (arith, others, others-length c.args.file-lengths.now c.args.word-lengths.now c.if-file_lengths-eq0.false c.requires.word_lengths_len.1.0), omega (arith, others, others-length c.args.file-lengths.now c.args.read-lengths.now c.if-file_lengths-eq0.false c.requires.word_lengths_len.1.1), omega (arith, others, c.requires.word_lengths_len.1.2)),
+        (others_total c.args.file-lengths.now c.args.file-lengths.now c.args.files.now c.if-file_lengths-eq0.false refl c.requires.file_lengths_value.0, others_total c.args.file-lengths.now c.args.word-lengths.now c.args.words.now c.if-file_lengths-eq0.false c.requires.word_lengths_len.0 c.requires.file_lengths_value.1, others_total c.args.file-lengths.now c.args.read-lengths.now c.args.read.now c.if-file_lengths-eq0.false c.requires.word_lengths_len.1 c.requires.file_lengths_value.2),
+        (omega (arith, others, others-length c.args.file-lengths.now c.args.word-lengths.now c.if-file_lengths-eq0.false c.requires.word_lengths_len.0), omega (arith, others, others-length c.args.file-lengths.now c.args.read-lengths.now c.if-file_lengths-eq0.false c.requires.word_lengths_len.1), omega (arith, others, c.requires.word_lengths_len.2)),
       ),
     )
 
@@ -179,14 +179,14 @@ overflow_add-result t c =
     let others = others-few t c c.if-file_lengths-eq0.false in
     let w = within_rows c.args.heads.now c.args.rows.now c.in-Rows.is c.find-s.ensures.within in
     let g = gathered_rows (length (mid_of 1 (length c.args.file-lengths.now - 1) c.args.file-lengths.now)) _ _ c.in-Rows-t.is c.find_slots-t.ensures.within in
-    omega (arith, w.0, g.0, others, c.requires.word_lengths_len.1.2, most_slots)
+    omega (arith, w.0, g.0, others, c.requires.word_lengths_len.2, most_slots)
 
 pub overflow_add-result-in-Rows-t : goal.overflow_add-result-in-Rows-t
 overflow_add-result-in-Rows-t t c =
     let one = one-file t c c.if-file_lengths-eq0.false in
     let others = others-few t c c.if-file_lengths-eq0.false in
     let g = gathered_rows (length (mid_of 1 (length c.args.file-lengths.now - 1) c.args.file-lengths.now)) _ _ c.in-Rows-t.is c.find_slots-t.ensures.within in
-    omega (arith, first_steps c.args.attention c.args.slot c.args.file-lengths.now c.args.word-lengths.now c.args.read-lengths.now c.args.files.now c.args.words.now c.args.read.now one c.requires.word_lengths_len.1.0 c.requires.word_lengths_len.1.1 c.find-s.new.heads c.find-s.new.rows.0 c.in-Rows.is c.find-s.ensures.exact (λ i. (c.type_inv.files i).fits), g.3, others, c.requires.word_lengths_len.1.2, most_slots)
+    omega (arith, first_steps c.args.attention c.args.slot c.args.file-lengths.now c.args.word-lengths.now c.args.read-lengths.now c.args.files.now c.args.words.now c.args.read.now one c.requires.word_lengths_len.0 c.requires.word_lengths_len.1 c.find-s.new.heads c.find-s.new.rows.0 c.in-Rows.is c.find-s.ensures.exact (λ i. (c.type_inv.files i).fits), g.3, others, c.requires.word_lengths_len.2, most_slots)
 
 pub shape_of-heads-in-Rows-t : goal.shape_of-heads-in-Rows-t
 shape_of-heads-in-Rows-t t c =
@@ -210,14 +210,14 @@ returns-in-Rows-t t c =
     let g = gathered_rows (length (mid_of 1 (length c.args.file-lengths.now - 1) c.args.file-lengths.now)) _ _ c.in-Rows-t.is c.find_slots-t.ensures.within in record {
       exact = λ h.
           put_joined c.args.attention _ c.find-s.new.heads c.find-s.new.rows.0 c.find_slots-t.new.heads c.find_slots-t.new.rows.0 c.in-Rows.x.rows (omega (arith, w.1, c.heads-1.given)) (omega (arith, w.2, c.rows-1.given))
-          (later_joined c.args.attention c.args.slot c.args.file-lengths.now c.args.word-lengths.now c.args.read-lengths.now c.args.files.now c.args.words.now c.args.read.now one c.requires.word_lengths_len.1.0 c.requires.word_lengths_len.1.1 c.find-s.new.heads c.find-s.new.rows.0 c.in-Rows.is c.find-s.ensures.exact c.find_slots-t.new.heads c.find_slots-t.new.rows.0 (omega (arith, w.1, c.heads-1.given)) (omega (arith, w.2, c.rows-1.given)) c.in-Rows-t.is
-          (λ h. c.find_slots-t.ensures.exact h ∙ rest_is c.args.attention c.args.slot c.args.file-lengths.now c.args.word-lengths.now c.args.read-lengths.now c.args.files.now c.args.words.now c.args.read.now one c.requires.word_lengths_len.1.0 c.requires.word_lengths_len.1.1 (mid_rest c.args.file-lengths.now 1 one) (mid_rest c.args.word-lengths.now 1 one-w) (mid_rest c.args.read-lengths.now 1 one-r) (mid_rest c.args.files.now _ in-files) (mid_rest c.args.words.now _ in_words_lem) (mid_rest c.args.read.now _ in-read)));
+          (later_joined c.args.attention c.args.slot c.args.file-lengths.now c.args.word-lengths.now c.args.read-lengths.now c.args.files.now c.args.words.now c.args.read.now one c.requires.word_lengths_len.0 c.requires.word_lengths_len.1 c.find-s.new.heads c.find-s.new.rows.0 c.in-Rows.is c.find-s.ensures.exact c.find_slots-t.new.heads c.find_slots-t.new.rows.0 (omega (arith, w.1, c.heads-1.given)) (omega (arith, w.2, c.rows-1.given)) c.in-Rows-t.is
+          (λ h. c.find_slots-t.ensures.exact h ∙ rest_is c.args.attention c.args.slot c.args.file-lengths.now c.args.word-lengths.now c.args.read-lengths.now c.args.files.now c.args.words.now c.args.read.now one c.requires.word_lengths_len.0 c.requires.word_lengths_len.1 (mid_rest c.args.file-lengths.now 1 one) (mid_rest c.args.word-lengths.now 1 one-w) (mid_rest c.args.read-lengths.now 1 one-r) (mid_rest c.args.files.now _ in-files) (mid_rest c.args.words.now _ in_words_lem) (mid_rest c.args.read.now _ in-read)));
       enough = λ p q. refl;
       within = (
         omega (arith, w.0, g.0, others),
         omega (arith, w.1, g.1, mid-length c.find-s.new.heads c.in-Rows.x.rows (omega (arith, w.1, c.heads-1.given)), c.heads-1.given),
         omega (arith, w.2, g.2, mid-length c.find-s.new.rows.0 c.in-Rows.x.rows (omega (arith, w.2, c.rows-1.given)), c.rows-1.given),
-        omega (arith, first_steps c.args.attention c.args.slot c.args.file-lengths.now c.args.word-lengths.now c.args.read-lengths.now c.args.files.now c.args.words.now c.args.read.now one c.requires.word_lengths_len.1.0 c.requires.word_lengths_len.1.1 c.find-s.new.heads c.find-s.new.rows.0 c.in-Rows.is c.find-s.ensures.exact (λ i. (c.type_inv.files i).fits), g.3, others),
+        omega (arith, first_steps c.args.attention c.args.slot c.args.file-lengths.now c.args.word-lengths.now c.args.read-lengths.now c.args.files.now c.args.words.now c.args.read.now one c.requires.word_lengths_len.0 c.requires.word_lengths_len.1 c.find-s.new.heads c.find-s.new.rows.0 c.in-Rows.is c.find-s.ensures.exact (λ i. (c.type_inv.files i).fits), g.3, others),
       );
     }
 
@@ -240,7 +240,7 @@ returns-in-Refused-t t c =
     let others = others-few t c c.if-file_lengths-eq0.false in
     let w = within_rows c.args.heads.now c.args.rows.now c.in-Rows.is c.find-s.ensures.within in
     record {
-      exact = λ h. later_stopped c.args.attention c.args.slot c.args.file-lengths.now c.args.word-lengths.now c.args.read-lengths.now c.args.files.now c.args.words.now c.args.read.now one c.requires.word_lengths_len.1.0 c.requires.word_lengths_len.1.1 c.find-s.new.heads c.find-s.new.rows.0 c.in-Rows.is c.find-s.ensures.exact c.find_slots-t.new.heads c.find_slots-t.new.rows.0 c.find_slots-t.new.heads c.find_slots-t.new.rows.0 c.in-Refused-t.is (λ h. c.find_slots-t.ensures.exact h ∙ rest_is c.args.attention c.args.slot c.args.file-lengths.now c.args.word-lengths.now c.args.read-lengths.now c.args.files.now c.args.words.now c.args.read.now one c.requires.word_lengths_len.1.0 c.requires.word_lengths_len.1.1 (mid_rest c.args.file-lengths.now 1 one) (mid_rest c.args.word-lengths.now 1 one-w) (mid_rest c.args.read-lengths.now 1 one-r) (mid_rest c.args.files.now _ in-files) (mid_rest c.args.words.now _ in_words_lem) (mid_rest c.args.read.now _ in-read)) h;
+      exact = λ h. later_stopped c.args.attention c.args.slot c.args.file-lengths.now c.args.word-lengths.now c.args.read-lengths.now c.args.files.now c.args.words.now c.args.read.now one c.requires.word_lengths_len.0 c.requires.word_lengths_len.1 c.find-s.new.heads c.find-s.new.rows.0 c.in-Rows.is c.find-s.ensures.exact c.find_slots-t.new.heads c.find_slots-t.new.rows.0 c.find_slots-t.new.heads c.find_slots-t.new.rows.0 c.in-Refused-t.is (λ h. c.find_slots-t.ensures.exact h ∙ rest_is c.args.attention c.args.slot c.args.file-lengths.now c.args.word-lengths.now c.args.read-lengths.now c.args.files.now c.args.words.now c.args.read.now one c.requires.word_lengths_len.0 c.requires.word_lengths_len.1 (mid_rest c.args.file-lengths.now 1 one) (mid_rest c.args.word-lengths.now 1 one-w) (mid_rest c.args.read-lengths.now 1 one-r) (mid_rest c.args.files.now _ in-files) (mid_rest c.args.words.now _ in_words_lem) (mid_rest c.args.read.now _ in-read)) h;
       enough = λ p q.
           stopped-gathered _ c.in-Refused-t.is
           (c.find_slots-t.ensures.enough (omega (arith, p, w.0, w.1, c.heads-1.given, mid-length c.find-s.new.heads c.in-Rows.x.rows (omega (arith, w.1, c.heads-1.given)), others)) (omega (arith, q, w.0, w.2, c.rows-1.given, mid-length c.find-s.new.rows.0 c.in-Rows.x.rows (omega (arith, w.2, c.rows-1.given)), others)));
@@ -257,7 +257,7 @@ pub returns-in-Refused : goal.returns-in-Refused
 returns-in-Refused t c =
     let one = one-file t c c.if-file_lengths-eq0.false in
     record {
-      exact = λ h. slot_stopped c.args.attention c.args.slot c.args.file-lengths.now c.args.word-lengths.now c.args.read-lengths.now c.args.files.now c.args.words.now c.args.read.now one c.requires.word_lengths_len.1.0 c.requires.word_lengths_len.1.1 c.find-s.new.heads c.find-s.new.rows.0 c.in-Refused.is c.find-s.ensures.exact h;
+      exact = λ h. slot_stopped c.args.attention c.args.slot c.args.file-lengths.now c.args.word-lengths.now c.args.read-lengths.now c.args.files.now c.args.words.now c.args.read.now one c.requires.word_lengths_len.0 c.requires.word_lengths_len.1 c.find-s.new.heads c.find-s.new.rows.0 c.in-Refused.is c.find-s.ensures.exact h;
       enough = λ p q. stopped_found _ c.in-Refused.is (c.find-s.ensures.enough (omega (arith, p, one)) (omega (arith, q, one)));
       within = tt;
     }

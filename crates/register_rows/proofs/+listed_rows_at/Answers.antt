@@ -11,15 +11,14 @@ use Rattle.register_rows.proofs.ListedLaws.{told_room, untold_over}
 use Rattle.register_rows.proofs.+listed_rows_at.Goals as goal
 
 pub all_rows_at-requires : goal.all_rows_at-requires
-all_rows_at-requires t c = c.requires.1
+all_rows_at-requires t c = c.requires
 
 pub returns-then-larger-eq0 : goal.returns-then-larger-eq0
 returns-then-larger-eq0 t c =
-    let the = c.all_rows_at.ensures in
-    record { result_value = the.0; kinds_after = the.1 }
+    record { result_value = c.all_rows_at.ensures.result_value; kinds_after = c.all_rows_at.ensures.kinds_after }
 
 pub few_rows_at-c-requires : goal.few_rows_at-c-requires
-few_rows_at-c-requires t c = c.requires.1
+few_rows_at-c-requires t c = c.requires
 
 pub returns-then-is_told : goal.returns-then-is_told
 returns-then-is_told t c =
@@ -30,7 +29,7 @@ returns-then-is_told t c =
     }
 
 pub listed_rows_at-requires : goal.listed_rows_at-requires
-listed_rows_at-requires t c = (omega arith, c.requires.1)
+listed_rows_at-requires t c = (omega arith, c.requires)
 
 pub returns : goal.returns
 returns t c =

@@ -1,10 +1,10 @@
-use Prim.Native.Nat.{◌+◌, ◌≤◌}
+use Prim.Native.Nat.{◌+◌, ◌≤◌, ◌<◌}
 use mathlib.Core.Bool.{true}
 use mathlib.Core.List.{[], map}
 use mathlib.Core.Path.{◌≡◌, refl, sym, ◌∙◌, ap}
 use native.Mathlib.Omega.{arith}
 use borrow.Author.Rules.{rules}
-use lib.ListN.{length, length-set}
+use lib.ListN.{length, set, length-set}
 use lib.Seq.{length-take-le}
 use Rattle.format.specs.Lookup.{entries_of}
 use Rattle.format.specs.Parsed.{row_at}
@@ -37,7 +37,9 @@ slice_bounds-register_at-end c =
     omega (arith, c.loop-left.invariant.0, c.loop-left.invariant.2, c.loop-left.invariant.3, c.loop-left.invariant.4, c.requires.1)
 
 pub slice_bounds-register_at-end-in-loop-left : goal.slice_bounds-register_at-end-in-loop-left
-slice_bounds-register_at-end-in-loop-left c = sym (length-take-le _ _ (slice-reshare-prefix-register-at c))
+slice_bounds-register_at-end-in-loop-left c =
+    let w : c.loop-left.known ≤ length c.loop-left.ids = omega (arith, c.loop-left.invariant.0, c.loop-left.invariant.2, c.loop-left.invariant.3, c.loop-left.invariant.4, c.requires.1) in
+    sym (length-take-le _ _ w)
 
 pub offset_bounds-ids-known : goal.offset_bounds-ids-known
 offset_bounds-ids-known c = omega arith
@@ -48,14 +50,23 @@ bounds-ids-known c =
     omega (arith, h.0, h.1, c.loop-left.invariant.5.counting.counted, c.loop-left.invariant.0, c.loop-left.invariant.2, c.loop-left.invariant.4, c.loop-left-test.true, c.requires.1)
 
 pub overflow_add-known : goal.overflow_add-known
-overflow_add-known c = omega (arith, slice-write-ids c, c.requires.2, c.loop-left.invariant.0)
+overflow_add-known c =
+    let h = register_size _ _ c.loop-left.invariant.5.before _ (sym (ap element_parsed c.in-Element.is) ∙ c.register_at-e.ensures.result_value c.loop-left.invariant.5.indexed c.loop-left.invariant.5.before (elements_told _ _ _ _ registers_none registers_more c.loop-left.invariant.5) c.loop-left.invariant.5.counting.counted) in
+    let b : c.loop-left.known < length c.loop-left.ids = omega (arith, h.0, h.1, c.loop-left.invariant.5.counting.counted, c.loop-left.invariant.0, c.loop-left.invariant.2, c.loop-left.invariant.4, c.loop-left-test.true, c.requires.1) in
+    omega (arith, b, c.requires.2, c.loop-left.invariant.0)
 
 pub slice_bounds-enter_ids-end : goal.slice_bounds-enter_ids-end
 slice_bounds-enter_ids-end c =
-    omega (arith, slice-write-ids c, length-set c.loop-left.ids c.loop-left.known c.in-Element.id)
+    let h = register_size _ _ c.loop-left.invariant.5.before _ (sym (ap element_parsed c.in-Element.is) ∙ c.register_at-e.ensures.result_value c.loop-left.invariant.5.indexed c.loop-left.invariant.5.before (elements_told _ _ _ _ registers_none registers_more c.loop-left.invariant.5) c.loop-left.invariant.5.counting.counted) in
+    let b : c.loop-left.known < length c.loop-left.ids = omega (arith, h.0, h.1, c.loop-left.invariant.5.counting.counted, c.loop-left.invariant.0, c.loop-left.invariant.2, c.loop-left.invariant.4, c.loop-left-test.true, c.requires.1) in
+    omega (arith, b, length-set c.loop-left.ids c.loop-left.known c.in-Element.id)
 
 pub slice_bounds-enter_ids-end-in-Element : goal.slice_bounds-enter_ids-end-in-Element
-slice_bounds-enter_ids-end-in-Element c = sym (length-take-le _ _ (slice-reshare-prefix-enter-ids c))
+slice_bounds-enter_ids-end-in-Element c =
+    let h = register_size _ _ c.loop-left.invariant.5.before _ (sym (ap element_parsed c.in-Element.is) ∙ c.register_at-e.ensures.result_value c.loop-left.invariant.5.indexed c.loop-left.invariant.5.before (elements_told _ _ _ _ registers_none registers_more c.loop-left.invariant.5) c.loop-left.invariant.5.counting.counted) in
+    let b : c.loop-left.known < length c.loop-left.ids = omega (arith, h.0, h.1, c.loop-left.invariant.5.counting.counted, c.loop-left.invariant.0, c.loop-left.invariant.2, c.loop-left.invariant.4, c.loop-left-test.true, c.requires.1) in
+    let w : c.loop-left.known + 1 ≤ length (set c.loop-left.ids c.loop-left.known c.in-Element.id) = omega (arith, b, length-set c.loop-left.ids c.loop-left.known c.in-Element.id) in
+    sym (length-take-le _ _ w)
 
 pub overflow_add-total : goal.overflow_add-total
 overflow_add-total c =
@@ -88,13 +99,14 @@ pub loop-left-preserved : goal.loop-left-preserved
 loop-left-preserved c =
     let k = elements_told _ _ _ _ registers_none registers_more c.loop-left.invariant.5 in
     let z = sym (ap element_parsed c.in-Element.is) ∙ c.register_at-e.ensures.result_value c.loop-left.invariant.5.indexed c.loop-left.invariant.5.before k c.loop-left.invariant.5.counting.counted in
-    let h = register_size _ _ c.loop-left.invariant.5.before _ z in (
+    let h = register_size _ _ c.loop-left.invariant.5.before _ z in
+    let b : c.loop-left.known < length c.loop-left.ids = omega (arith, h.0, h.1, c.loop-left.invariant.5.counting.counted, c.loop-left.invariant.0, c.loop-left.invariant.2, c.loop-left.invariant.4, c.loop-left-test.true, c.requires.1) in (
       length-set c.loop-left.ids c.loop-left.known c.in-Element.id ∙ c.loop-left.invariant.0,
       c.index-1.given ∙ c.loop-left.invariant.1,
       omega (arith, h.0, c.loop-left.invariant.2),
       omega (arith, h.1, c.loop-left.invariant.5.counting.counted),
       omega (arith, c.loop-left.invariant.4, c.loop-left-test.true),
-      elements_next _ _ _ _ registers_none registers_more c.loop-left.invariant.5 z c.loop-left-test.true (slice-write-ids c) (omega (arith, c.loop-left.invariant.0, c.requires.2)) c.enter_ids-entered.ensures c.larger-largest.ensures,
+      elements_next _ _ _ _ registers_none registers_more c.loop-left.invariant.5 z c.loop-left-test.true b (omega (arith, c.loop-left.invariant.0, c.requires.2)) c.enter_ids-entered.ensures c.larger-largest.ensures,
       record { keys = c.keys-1.given ∙ c.loop-left.invariant.6.keys; kinds = c.kinds-1.given ∙ c.loop-left.invariant.6.kinds; places = refl },
       filling_next _ _ _ c.loop-left.invariant.7 c.loop-left-test.true (register_next _ _ _ _ _ c.loop-left.invariant.5.before c.loop-left.invariant.5.counting.counted z (c.register_at-e.ensures.kinds_after c.loop-left.invariant.5.indexed c.loop-left.invariant.5.before k c.loop-left.invariant.5.counting.counted)),
     )

@@ -5,9 +5,7 @@ use Rattle.report.proofs.TextLaws.{put_from}
 use Rattle.report.proofs.+report_with.Goals as goal
 
 pub returns-then-larger-lt3 : goal.returns-then-larger-lt3
-returns-then-larger-lt3 t c =
-    let the = c.report_full.ensures in
-    record { put = the.0; upper_bound = the.1 }
+returns-then-larger-lt3 t c = record { put = c.report_full.ensures.put; upper_bound = c.report_full.ensures.upper_bound }
 
 pub returns-then-n-gt0 : goal.returns-then-n-gt0
 returns-then-n-gt0 t c = record {

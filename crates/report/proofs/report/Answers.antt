@@ -2,6 +2,4 @@ use borrow.Author.Rules.{rules}
 use Rattle.report.proofs.report.Goals as goal
 
 pub returns : goal.returns
-returns c =
-    let the = c.report_with.ensures in
-    record { put = the.0; upper_bound = the.1 }
+returns c = record { put = c.report_with.ensures.put; upper_bound = c.report_with.ensures.upper_bound }

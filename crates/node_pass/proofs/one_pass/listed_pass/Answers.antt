@@ -1,8 +1,8 @@
-use Prim.Native.Nat.{ℕ, ◌≤◌}
+use Prim.Native.Nat.{ℕ, ◌+◌, ◌≤◌, ◌<◌}
 use mathlib.Core.Path.{◌≡◌, refl, sym, ◌∙◌, ap}
 use native.Mathlib.Omega.{arith}
 use borrow.Author.Rules.{rules}
-use lib.ListN.{length, length-set, length-replicate}
+use lib.ListN.{length, set, length-set, length-replicate}
 use lib.Seq.{length-take-le}
 use Rattle.limits.specs.Limits.{library_limits}
 use Rattle.tables.specs.Indexed.{places_for, IndexOf}
@@ -83,10 +83,17 @@ pub overflow_add-ids : goal.overflow_add-ids
 overflow_add-ids c = omega (arith, c.loop-left.invariant.4, c.loop-left.invariant.5, c.loop-left.invariant.6)
 
 pub slice_bounds-ids-end-in-Head : goal.slice_bounds-ids-end-in-Head
-slice_bounds-ids-end-in-Head c = omega (arith, array-write-ids c, length-set c.loop-left.ids c.loop-left.known c.in-Head.h.id)
+slice_bounds-ids-end-in-Head c =
+    let z = head_some _ c.loop-left.invariant.7.numbers _ (sym (ap node_head_parsed c.in-Head.is) ∙ c.node_head_at-top.ensures c.loop-left.invariant.7.told.indexed c.loop-left.invariant.7.numbers (ids_told c.loop-left.invariant.7.told)) in
+    let b : c.loop-left.known < length c.loop-left.ids = omega (arith, z, c.if-limit-total.false, c.loop-left.invariant.0, c.loop-left.invariant.4, c.loop-left.invariant.5, c.loop-left.invariant.6) in
+    omega (arith, b, length-set c.loop-left.ids c.loop-left.known c.in-Head.h.id)
 
 pub slice_bounds-enter_ids-end : goal.slice_bounds-enter_ids-end
-slice_bounds-enter_ids-end c = sym (length-take-le _ _ (array-share-prefix-ids-2 c))
+slice_bounds-enter_ids-end c =
+    let z = head_some _ c.loop-left.invariant.7.numbers _ (sym (ap node_head_parsed c.in-Head.is) ∙ c.node_head_at-top.ensures c.loop-left.invariant.7.told.indexed c.loop-left.invariant.7.numbers (ids_told c.loop-left.invariant.7.told)) in
+    let b : c.loop-left.known < length c.loop-left.ids = omega (arith, z, c.if-limit-total.false, c.loop-left.invariant.0, c.loop-left.invariant.4, c.loop-left.invariant.5, c.loop-left.invariant.6) in
+    let w : c.loop-left.known + 1 ≤ length (set c.loop-left.ids c.loop-left.known c.in-Head.h.id) = omega (arith, b, length-set c.loop-left.ids c.loop-left.known c.in-Head.h.id) in
+    sym (length-take-le _ _ w)
 
 pub slice_bounds-enter_ids-end-in-Head : goal.slice_bounds-enter_ids-end-in-Head
 slice_bounds-enter_ids-end-in-Head c = sym c.loop-left.invariant.1
@@ -121,7 +128,8 @@ loop-left-smaller c = omega (arith, c.loop-left-test.true)
 pub loop-left-preserved : goal.loop-left-preserved
 loop-left-preserved c =
     let h = sym (ap node_head_parsed c.in-Head.is) ∙ c.node_head_at-top.ensures c.loop-left.invariant.7.told.indexed c.loop-left.invariant.7.numbers (ids_told c.loop-left.invariant.7.told) in
-    let z = head_some _ c.loop-left.invariant.7.numbers _ h in (
+    let z = head_some _ c.loop-left.invariant.7.numbers _ h in
+    let b : c.loop-left.known < length c.loop-left.ids = omega (arith, z, c.if-limit-total.false, c.loop-left.invariant.0, c.loop-left.invariant.4, c.loop-left.invariant.5, c.loop-left.invariant.6) in (
       length-set c.loop-left.ids c.loop-left.known c.in-Head.h.id ∙ c.loop-left.invariant.0,
       c.id_index-in-Head-2-1.given,
       record { keys = c.names-1.given ∙ c.loop-left.invariant.2.keys; kinds = c.wanted-1.given ∙ c.loop-left.invariant.2.kinds; places = c.places-1.given ∙ c.loop-left.invariant.2.places },
@@ -129,7 +137,7 @@ loop-left-preserved c =
       omega (arith, z, c.loop-left.invariant.4),
       omega (arith, c.if-limit-total.false, c.loop-left.invariant.5),
       c.loop-left.invariant.6,
-      listed_next _ _ _ _ _ _ _ _ _ c.loop-left.invariant.7 h (λ i. c.instances_pass-p.ensures i c.if-p-eq0.false) c.loop-left-test.true c.both-fits.ensures (omega (arith, array-write-ids c, c.loop-left.invariant.0)) (omega (arith, c.loop-left.invariant.0)) c.enter_ids-entered.ensures c.larger-largest.ensures,
+      listed_next _ _ _ _ _ _ _ _ _ c.loop-left.invariant.7 h (λ i. c.instances_pass-p.ensures i c.if-p-eq0.false) c.loop-left-test.true c.both-fits.ensures (omega (arith, b, c.loop-left.invariant.0)) (omega (arith, c.loop-left.invariant.0)) c.enter_ids-entered.ensures c.larger-largest.ensures,
     )
 
 pub shape_of-names : goal.shape_of-names

@@ -16,7 +16,7 @@ pub returns-then-link_children : goal.returns-then-link_children
 returns-then-link_children c = record {
       result_value = (λ of chip end file roots tables entries j k.
           let z = c.link_children.ensures k c.if-link_children.true (node_entries chip) (entries_again (limits_of of) _ file) (entries.entries_are (omega (arith, c.if-entries-eq0.false))) in
-          names_roots (limits_of of) _ (λ c.if-entries-eq0.false. (c.type_inv.s c.if-entries-eq0.false).fits) _ _ _ _ _ chip end file tables (clean_judged _ (no_faults _ _ _ (node_entries chip) (entries.fit (omega (arith, c.if-entries-eq0.false))) z.0)) refl _ c.root_faults.ensures roots);
+          names_roots (limits_of of) _ (λ i. (c.type_inv.s i).fits) _ _ _ _ _ chip end file tables (clean_judged _ (no_faults _ _ _ (node_entries chip) (entries.fit (omega (arith, c.if-entries-eq0.false))) z.0)) refl _ c.root_faults.ensures roots);
       linked = λ of chip end next r file tables entries j k.
           let z = c.link_children.ensures k c.if-link_children.true (node_entries chip) (entries_again (limits_of of) _ file) (entries.entries_are (omega (arith, c.if-entries-eq0.false))) in
           record { base = _; sized = refl; children_are = children-of chip _ _ tables.nodes_are z.1 };
