@@ -18,7 +18,6 @@ use Rattle.format.specs.Tree.{Expr, gather}
 use Rattle.format.proofs.GatheredLaws.{gathered-append}
 use Rattle.expressions.specs.declared.Head.{Head}
 use Rattle.expressions.specs.declared.Head.TheVariants.{Reading, Constant, All, Any, Inverse, Left, Right}
-use Rattle.expressions.specs.declared.HeadRead
 use Rattle.expressions.specs.declared.HeadRead.{HeadRead}
 use Rattle.expressions.specs.Heads.{arity_of, built, head_at, head_parsed}
 use Rattle.tables.specs.Faults.{position_in}

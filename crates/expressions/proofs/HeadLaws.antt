@@ -12,11 +12,8 @@ use Rattle.format.specs.ExpressionLayout.{Operation, is_reading, is_constant, is
 use Rattle.format.specs.Tree.{Expr, reading, constant, all, any, inverse, left, right, gather}
 use Rattle.expressions.specs.declared.Head.{Head}
 use Rattle.expressions.specs.declared.Head.TheVariants.{Reading, Constant, All, Any, Left, Right}
-use Rattle.expressions.specs.declared.HeadRead
 use Rattle.expressions.specs.declared.HeadRead.{HeadRead}
-use Rattle.fields.specs.declared.ByteRead
 use Rattle.fields.specs.declared.ByteRead.{ByteRead}
-use Rattle.fields.specs.declared.NextRead
 use Rattle.fields.specs.declared.NextRead.{NextRead}
 use Rattle.expressions.specs.Heads.{arity_of, built, first_operand, reading_head_at, operand_count_at, shift_at, operation_head_at, head_at}
 use Rattle.fields.specs.Views.{refused_by, byte_parsed, next_parsed, forget}

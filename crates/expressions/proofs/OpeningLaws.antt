@@ -10,7 +10,6 @@ use Rattle.format.specs.Parsed.{Parsed, done, and_then, require, requiring, row_
 use Rattle.format.proofs.ParsedLaws.{then_in, making_in}
 use Rattle.format.specs.Fields.{field_at}
 use Rattle.format.specs.ExpressionLayout.{operation_of, expr_at}
-use Rattle.fields.specs.declared.NextRead
 use Rattle.fields.specs.declared.NextRead.{NextRead}
 use Rattle.fields.specs.Views.{forget}
 use Rattle.fields.proofs.FieldLaws.{field_there, byte_field, field_three}

@@ -12,7 +12,6 @@ use Rattle.format.specs.Tree.{Expr}
 use Rattle.format.proofs.ParsedLaws.{never}
 use Rattle.fields.proofs.Parsing.{Found, found, Followed, followed, row-length, row_blind, row_end}
 use Rattle.expressions.specs.declared.Head.{Head}
-use Rattle.expressions.specs.declared.HeadRead
 use Rattle.expressions.specs.declared.HeadRead.{HeadRead}
 use Rattle.expressions.specs.Heads.{arity_of, built, head_at, head_parsed}
 use Rattle.expressions.proofs.HeadLaws.{expr_done, expr_refused}

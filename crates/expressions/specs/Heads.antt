@@ -6,7 +6,6 @@ use Rattle.format.specs.ExpressionLayout.{Operation, is_reading, is_constant, is
 use Rattle.format.specs.Tree.{Expr, reading, constant, all, any, inverse, left, right, gather}
 use Rattle.expressions.specs.declared.Head.{Head}
 use Rattle.expressions.specs.declared.Head.TheVariants.{Reading, Constant, All, Any, Inverse, Left, Right}
-use Rattle.expressions.specs.declared.HeadRead
 use Rattle.expressions.specs.declared.HeadRead.{HeadRead}
 use Rattle.fields.specs.Views.{refused_by}
 

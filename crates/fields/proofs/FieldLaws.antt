@@ -10,9 +10,7 @@ use lib.ListN.{length, take, drop, get_or, drop_of_length-le}
 use lib.Dec.{eqb}
 use lib.Seq.{drop-cons}
 use native.Mathlib.Numerals.{add-one}
-use Rattle.numbers.specs.declared.NumberRead
 use Rattle.numbers.specs.declared.NumberRead.{NumberRead}
-use Rattle.numbers.specs.declared.ByteRead
 use Rattle.numbers.specs.declared.ByteRead.{ByteRead}
 use Rattle.numbers.specs.BigEndian.{big_endian}
 use Rattle.numbers.specs.Field.{present, field, read_with, not_whole, number_values, byte_values, number_at}

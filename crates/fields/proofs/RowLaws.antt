@@ -14,9 +14,7 @@ use Rattle.format.specs.Parsed.{Parsed, done, refused, making, row_at}
 use Rattle.tables.specs.Indexed.{Indexed}
 use Rattle.tables.proofs.IndexedLaws.{indexed_none, indexed-append}
 use Rattle.fields.specs.Seen.{unmarked, new_after, Tells, Largest, Below}
-use Rattle.fields.specs.declared.NextRead
 use Rattle.fields.specs.declared.NextRead.{NextRead}
-use Rattle.fields.specs.declared.CountRead
 use Rattle.fields.specs.declared.CountRead.{CountRead}
 use Rattle.fields.specs.Views.{Element, Section, refused_by, next_parsed, count_parsed, forget}
 use Rattle.fields.proofs.Parsing.{Found, found, missed, making_making, row_end, row_step, row_stop, row-length}

@@ -1,9 +1,9 @@
 -- The laws of marks and of lists of IDs.
-use Prim.Native.Nat.{ℕ, zero, suc, max, ◌+◌, ◌-◌, ◌^◌, ◌≤◌, ◌<◌}
+use Prim.Native.Nat.{ℕ, zero, suc, max, ◌+◌, ◌^◌, ◌≤◌, ◌<◌}
 use mathlib.Core.Path.{◌≡◌, refl, sym, ◌∙◌, ap, subst, fun_ext}
 use mathlib.Core.Bool.{Bool, true, false, not, ◌||◌}
 use mathlib.Core.List.{List, [], ◌∷◌, ◌++◌}
-use mathlib.Core.Logic.{◌⊎◌, ⊎_elim}
+use mathlib.Core.Logic.{⊎_elim}
 use native.Mathlib.Numerals.{add-one}
 use native.Mathlib.Omega.{arith}
 use borrow.Author.Tests.{lt-ltb, le-ltb, ltb-true, le-leb, lt-leb, eq-eqb, ne_eqb}
@@ -18,7 +18,6 @@ use Rattle.format.proofs.ParsedLaws.{requiring_in}
 use Rattle.format.specs.Lookup.{some, position}
 use Rattle.format.proofs.FaultsLaws.{below?}
 use Rattle.format.proofs.PositionsLaws.{some_position}
-use Rattle.fields.specs.declared.RisingId
 use Rattle.fields.specs.declared.RisingId.{RisingId}
 use Rattle.fields.specs.Rising.{IdTold}
 use Rattle.fields.specs.Views.{refused_by}

@@ -5,11 +5,8 @@ use mathlib.Core.Bool.{Bool, true, false}
 use borrow.Author.Tests.{le-leb, lt-leb, lt-ltb, le-ltb, eq-eqb, ne_eqb}
 use Rattle.format.specs.declared.Refusal.{Refusal}
 use Rattle.format.specs.Parsed.{Parsed, done, refused, and_then, making, require, requiring}
-use Rattle.fields.specs.declared.ByteRead
 use Rattle.fields.specs.declared.ByteRead.{ByteRead}
-use Rattle.fields.specs.declared.NumberRead
 use Rattle.fields.specs.declared.NumberRead.{NumberRead}
-use Rattle.fields.specs.declared.NextRead
 use Rattle.fields.specs.declared.NextRead.{NextRead}
 use Rattle.fields.proofs.Parsing.{Found, found, missed}
 use Rattle.fields.specs.Views.{refused_by, byte_parsed, number_parsed, next_parsed, forget}

@@ -1,11 +1,8 @@
 -- What the answers of a reader stand for that goes on while IDs rise: where one falls, nothing is said of what was read.
 use Rattle.std.specs.Prelude.{ℕ, ◌^◌, ◌≤◌, ◌<◌, ◌≡◌}
 use Rattle.format.specs.Parsed.{Parsed, done}
-use Rattle.fields.specs.declared.RisingId
 use Rattle.fields.specs.declared.RisingId.{RisingId}
-use Rattle.fields.specs.declared.RisingElement
 use Rattle.fields.specs.declared.RisingElement.{RisingElement}
-use Rattle.fields.specs.declared.RisingCount
 use Rattle.fields.specs.declared.RisingCount.{RisingCount}
 use Rattle.fields.specs.Views.{Element, refused_by, count_parsed}
 

@@ -3,17 +3,11 @@ use Rattle.std.specs.Prelude.{ℕ}
 use Rattle.format.specs.declared.Refusal.{Refusal}
 use Rattle.format.specs.Refusals.{number_of}
 use Rattle.format.specs.Parsed.{Parsed, done, refused, making}
-use Rattle.fields.specs.declared.ByteRead
 use Rattle.fields.specs.declared.ByteRead.{ByteRead}
-use Rattle.fields.specs.declared.NumberRead
 use Rattle.fields.specs.declared.NumberRead.{NumberRead}
-use Rattle.fields.specs.declared.NextRead
 use Rattle.fields.specs.declared.NextRead.{NextRead}
-use Rattle.fields.specs.declared.ElementRead
 use Rattle.fields.specs.declared.ElementRead.{ElementRead}
-use Rattle.fields.specs.declared.CountRead
 use Rattle.fields.specs.declared.CountRead.{CountRead}
-use Rattle.fields.specs.declared.SectionRead
 use Rattle.fields.specs.declared.SectionRead.{SectionRead}
 
 -- A refusal's number and place.

@@ -1,5 +1,5 @@
 -- Register instances and node instances in file order, and which of them a name means.
-use Rattle.std.specs.Prelude.{ℕ, suc, ◌+◌, Bool, false, cond, ◌&&◌, ◌||◌, List, [], ◌∷◌, ◌++◌, map, take, drop, eqb}
+use Rattle.std.specs.Prelude.{ℕ, suc, Bool, false, cond, ◌&&◌, ◌||◌, List, [], ◌∷◌, ◌++◌, map, take, drop, eqb}
 use Rattle.format.specs.Tree.{RegisterInstance, Register, NodeInstance, Node, Chip}
 
 module _ {A : Type 0} (test : A → Bool) where

@@ -2,9 +2,7 @@
 use Rattle.std.specs.Prelude.{ℕ}
 use Rattle.format.specs.declared.Kind.{Kind}
 use Rattle.format.specs.declared.Kind.TheVariants.{FileTooLong, FieldCut, WrongKeyword, WrongVersion, ZeroCount, UnknownValue, Duplicate, TooManyInstances, BadExpression, BitTooHigh, BytesAfterEnd, NameAbsent, RegisterUnfit, ChildCycle, BadAttentionType, NoRoot, ReadingsUnfit, RegisterUnread, NoRoom, BoardUnfit, RecordNotAllowed, OutputTooShort, TableTooShort}
-use Rattle.format.specs.declared.Checked
 use Rattle.format.specs.declared.Checked.{Checked}
-use Rattle.format.specs.declared.Address
 use Rattle.format.specs.declared.Address.{Address}
 
 -- The table's first column, with 20 of document 02 (vi), 40 and 41 of (ii); and 43, which is ours: a table that a caller lent for a file is too short for it.

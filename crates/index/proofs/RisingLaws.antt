@@ -10,9 +10,7 @@ use Rattle.format.specs.Lookup.{gathered}
 use Rattle.format.specs.Fields.{field_at, fresh}
 use Rattle.format.specs.Parsed.{Parsed, done, refused, and_then, making, requiring, row_at}
 use Rattle.fields.specs.declared.CountRead.{CountRead}
-use Rattle.fields.specs.declared.RisingCount
 use Rattle.fields.specs.declared.RisingCount.{RisingCount}
-use Rattle.fields.specs.declared.RisingElement
 use Rattle.fields.specs.declared.RisingElement.{RisingElement}
 use Rattle.fields.specs.Rising.{ElementTold, ElementUnless, CountTold, CountUnless}
 use Rattle.fields.specs.Seen.{Below}

@@ -1,6 +1,5 @@
 -- The limits of a chip data file: refusals 1, 8 and 9 of document 01's table, and what document 02 (x) raises.
 use Rattle.std.specs.Prelude.{ℕ, ◌*◌}
-use Rattle.limits.specs.declared.LimitSet
 use Rattle.limits.specs.declared.LimitSet.{LimitSet}
 
 -- The most bytes, register instances and node instances of a file.

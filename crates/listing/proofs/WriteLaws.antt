@@ -13,7 +13,6 @@ use Rattle.numbers.specs.Bits.{bit_of}
 use Rattle.numbers.proofs.BigEndianLaws.{length_bytes}
 use Rattle.graph.specs.Chains.{below, kept}
 use Rattle.format.specs.Lookup.{gathered}
-use Rattle.listing.specs.declared.Listing
 use Rattle.listing.specs.declared.Listing.{Listing}
 use Rattle.listing.specs.Records.{bit_bytes, record_of, record_size}
 use Rattle.listing.specs.Rows.{set_to, key_id, key_number, head_model, head_slot, head_record, bit_records, word_records, Row, rows_of, first_rows, kept_count, kept_records, RowsIn, Wrote, listing_values, has_room, listing_for, list_after}

@@ -4,7 +4,6 @@ use Rattle.numbers.specs.Bits.{bit_of, word_of}
 use Rattle.graph.specs.Chains.{Graph, Link, link, listable, below, kept}
 use Rattle.format.specs.Lookup.{gathered}
 use Rattle.walk.specs.TableGraph.{table_size, table_graph}
-use Rattle.listing.specs.declared.Listing
 use Rattle.listing.specs.declared.Listing.{Listing}
 use Rattle.listing.specs.Records.{record_of, record_size}
 

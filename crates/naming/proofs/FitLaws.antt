@@ -12,10 +12,8 @@ use Rattle.format.specs.ExpressionLayout.{expr_at}
 use Rattle.format.specs.Lookup.{position, gathered}
 use Rattle.format.specs.References.{Named, Fault, named_by}
 use Rattle.format.specs.Tree.{Expr}
-use Rattle.fields.specs.declared.NextRead
 use Rattle.fields.specs.declared.NextRead.{NextRead}
 use Rattle.fields.specs.Views.{forget}
-use Rattle.expressions.specs.declared.HeadRead
 use Rattle.expressions.specs.declared.HeadRead.{HeadRead}
 use Rattle.expressions.specs.Names.{own_names}
 use Rattle.expressions.specs.Openings.{id_in, reading_of, Opening}

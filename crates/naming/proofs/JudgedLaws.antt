@@ -12,12 +12,10 @@ use Rattle.format.specs.Lookup.{gathered}
 use Rattle.format.specs.References.{Named, Fault, unless, named_by}
 use Rattle.format.specs.Tree.{Expr}
 use Rattle.format.proofs.GatheredLaws.{gathered-append}
-use Rattle.fields.specs.declared.NextRead
 use Rattle.fields.specs.declared.NextRead.{NextRead}
 use Rattle.fields.specs.Views.{refused_by, next_parsed}
 use Rattle.expressions.specs.declared.Head.{Head}
 use Rattle.expressions.specs.declared.Head.TheVariants.{Reading}
-use Rattle.expressions.specs.declared.HeadRead
 use Rattle.expressions.specs.declared.HeadRead.{HeadRead}
 use Rattle.expressions.specs.Heads.{arity_of, built, head_at, head_parsed}
 use Rattle.tables.specs.Faults.{judged_at, position_in, present, register_faults_in, name_faults}

@@ -19,7 +19,6 @@ use Rattle.nodes.specs.Nodes.{node_section}
 use Rattle.index.specs.Rows.{Rows, filled, node_row}
 use Rattle.index.proofs.Again.{same_done}
 use Rattle.node_pass.specs.declared.SectionPass.{SectionPass}
-use Rattle.node_pass.specs.declared.section.NodesRead
 use Rattle.node_pass.specs.declared.section.NodesRead.{NodesRead}
 use Rattle.node_pass.specs.Passed.{SectionPassed}
 use Rattle.node_pass.specs.Section.{NodesKept}

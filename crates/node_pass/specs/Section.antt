@@ -7,7 +7,6 @@ use Rattle.fields.specs.Views.{Section, refused_by}
 use Rattle.tables.specs.Indexed.{IndexOf}
 use Rattle.tables.specs.Tables.{written}
 use Rattle.index.specs.Rows.{Rows, filled, node_row, entry_children}
-use Rattle.node_pass.specs.declared.section.NodesRead
 use Rattle.node_pass.specs.declared.section.NodesRead.{NodesRead}
 use Rattle.node_pass.specs.Passed.{entry_names_in}
 

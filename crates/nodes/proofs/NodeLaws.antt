@@ -17,10 +17,8 @@ use Rattle.format.specs.ExpressionLayout.{expr_at}
 use Rattle.format.specs.Tree.{Capture, Rule, Child, NodeInstance, Node}
 use Rattle.format.specs.NodeLayout.{NodeHead, InstanceHead, capture_at, rule_at, child_at, instance_head_at, node_instance_at, node_total, node_head_at, node_at}
 use Rattle.nodes.specs.declared.NodeHead as declared
-use Rattle.nodes.specs.declared.NodeHeadRead
 use Rattle.nodes.specs.declared.NodeHeadRead.{NodeHeadRead}
 use Rattle.nodes.specs.declared.InstanceHead as instance
-use Rattle.nodes.specs.declared.InstanceHeadRead
 use Rattle.nodes.specs.declared.InstanceHeadRead.{InstanceHeadRead}
 use Rattle.fields.specs.Seen.{unmarked, new_after, instance_number_at, Tells, Below}
 use Rattle.nodes.specs.Nodes.{child_bit_at, counts_at, node_body_at, ChildrenRead}

@@ -5,9 +5,7 @@ use Rattle.format.specs.Fields.{field_at, count_at}
 use Rattle.format.specs.Tree.{Rule, Child, NodeInstance, Node}
 use Rattle.format.specs.NodeLayout.{NodeHead, InstanceHead, node_total, capture_at, rule_at, child_at}
 use Rattle.fields.specs.Views.{Element, Section, refused_by}
-use Rattle.nodes.specs.declared.NodeHeadRead
 use Rattle.nodes.specs.declared.NodeHeadRead.{NodeHeadRead}
-use Rattle.nodes.specs.declared.InstanceHeadRead
 use Rattle.nodes.specs.declared.InstanceHeadRead.{InstanceHeadRead}
 
 abbrev pub node_head_parsed : NodeHeadRead → Parsed NodeHead

@@ -2,9 +2,7 @@
 use Rattle.std.specs.Prelude.{ℕ, ◌+◌, List, Bool, cond, length, take, drop, leb}
 use Rattle.numbers.specs.declared.Width.{Width}
 use Rattle.numbers.specs.declared.Width.TheVariants.{Two, Three, Four, Eight}
-use Rattle.numbers.specs.declared.NumberRead
 use Rattle.numbers.specs.declared.NumberRead.{NumberRead}
-use Rattle.numbers.specs.declared.ByteRead
 use Rattle.numbers.specs.declared.ByteRead.{ByteRead}
 use Rattle.numbers.specs.BigEndian.{big_endian}
 

@@ -9,7 +9,6 @@ use lib.ListN.{length, take, drop, length-append}
 use Rattle.format.specs.Fields.{address_size}
 use Rattle.records.specs.declared.Record.{Record}
 use Rattle.records.specs.declared.Element.{Element}
-use Rattle.records.specs.declared.Element.TheVariants as element
 use Rattle.records.specs.Record.{record_at, records_from}
 use Rattle.records.specs.Grammar.{element_of, expression_of, element}
 use Rattle.records.specs.Sizes.{own_size}

@@ -15,7 +15,6 @@ use Rattle.format.specs.Refusals.{CheckValues, number_of}
 use Rattle.format.specs.Verdict.{verdict, counts_of}
 use Rattle.format.proofs.ParsedLaws.{never}
 use Rattle.reader.specs.declared.Layout.{Layout}
-use Rattle.reader.specs.declared.LayoutRead
 use Rattle.reader.specs.declared.LayoutRead.{LayoutRead}
 use Rattle.reader.specs.Classes.{class_room, is_exact}
 use Rattle.reader.specs.Examined.{Lengths, lengths_of, room_of, room_for_layout, room_for}

@@ -33,7 +33,6 @@ use Rattle.index.specs.Rows.{Rows, filled, register_row, pair, entry_children}
 use Rattle.node_pass.specs.Section.{NodesKept, IndexKept}
 use Rattle.links.specs.Links.{child_row}
 use Rattle.reader.specs.declared.Layout.{Layout}
-use Rattle.reader.specs.declared.LayoutRead
 use Rattle.reader.specs.declared.LayoutRead.{LayoutRead}
 use Rattle.reader.specs.Columns.{child_column}
 use Rattle.reader.specs.Entries.{EntriesIn, EntriesOf}

@@ -14,17 +14,13 @@ use Rattle.format.specs.NodeLayout.{node_total, nodes_at}
 use Rattle.format.specs.FileLayout.{start_at, roots_at, file_at}
 use Rattle.format.specs.Tree.{Register, Node, Root, Chip}
 use Rattle.format.specs.Verdict.{counts_of}
-use Rattle.fields.specs.declared.SectionRead
 use Rattle.fields.specs.declared.SectionRead.{SectionRead}
-use Rattle.fields.specs.declared.ByteRead
 use Rattle.fields.specs.declared.ByteRead.{ByteRead}
 use Rattle.index.specs.Rows.{Rows}
 use Rattle.node_pass.specs.declared.SectionPass.{SectionPass}
-use Rattle.node_pass.specs.declared.section.NodesRead
 use Rattle.node_pass.specs.declared.section.NodesRead.{NodesRead}
 use Rattle.node_pass.specs.Section.{nodes_parsed, NodesKept, IndexKept}
 use Rattle.reader.specs.declared.Layout.{Layout}
-use Rattle.reader.specs.declared.LayoutRead
 use Rattle.reader.specs.declared.LayoutRead.{LayoutRead}
 use Rattle.reader.specs.Layout.{Summary, summary, layout_at, layout_values}
 use Rattle.fields.specs.Views.{Section, refused_by, byte_parsed, section_parsed}

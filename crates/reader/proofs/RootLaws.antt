@@ -8,7 +8,6 @@ use Rattle.format.specs.Parsed.{Parsed, done, and_then, making, requiring, row_a
 use Rattle.format.specs.Fields.{field_at, attention_at}
 use Rattle.format.specs.Tree.{Root}
 use Rattle.format.specs.FileLayout.{root_at}
-use Rattle.fields.specs.declared.NextRead
 use Rattle.fields.specs.declared.NextRead.{NextRead}
 use Rattle.fields.specs.Seen.{unmarked, Tells}
 use Rattle.fields.specs.Views.{next_parsed, forget}

@@ -2,7 +2,6 @@
 use Rattle.std.specs.Prelude.{◌*◌, Bool, true, not, eqb}
 use Rattle.limits.specs.Classes.{Class}
 use Rattle.format.specs.Refusals.{number_of}
-use Rattle.reader.specs.declared.LayoutRead
 use Rattle.reader.specs.declared.LayoutRead.{LayoutRead}
 use Rattle.reader.specs.Examined.{Lengths}
 

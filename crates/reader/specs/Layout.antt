@@ -8,7 +8,6 @@ use Rattle.format.specs.FileLayout.{start_at, roots_at}
 use Rattle.format.specs.Tree.{Register, Node, Root}
 use Rattle.format.specs.Refusals.{CheckValues, accepted_with}
 use Rattle.reader.specs.declared.Layout.{Layout}
-use Rattle.reader.specs.declared.LayoutRead
 use Rattle.reader.specs.declared.LayoutRead.{LayoutRead}
 use Rattle.fields.specs.Views.{refused_by}
 

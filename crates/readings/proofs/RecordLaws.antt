@@ -17,7 +17,6 @@ use Rattle.format.specs.declared.Refusal.{Refusal}
 use Rattle.format.proofs.NumberedLaws.{kind_some}
 use Rattle.tables.specs.Tables.{written}
 use Rattle.tables.proofs.TablesLaws.{written_front}
-use Rattle.readings.specs.declared.Decoded
 use Rattle.readings.specs.declared.Decoded.{Decoded}
 use Rattle.readings.specs.ReadingsFile.{read_byte, value_in, record_fits, records_fit, file_fits, each_record, places_for, decodes, DecodedValues, decoded_values, decoding, lent_after}
 

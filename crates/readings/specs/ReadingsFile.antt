@@ -6,7 +6,6 @@ use Rattle.numbers.specs.Field.{field}
 use Rattle.format.specs.Lookup.{RegisterEntry, register_entries, some}
 use Rattle.format.specs.Refusals.{number_of}
 use Rattle.format.specs.Tree.{Chip}
-use Rattle.readings.specs.declared.Decoded
 use Rattle.readings.specs.declared.Decoded.{Decoded}
 
 -- "Records of one fixed size, no header: 16 bytes each".

@@ -13,7 +13,7 @@ use Rattle.records.specs.declared.Before.{Before}
 use Rattle.records.specs.declared.Element.{Element}
 use Rattle.records.specs.Record.{record_at, record_within, records_from}
 use Rattle.records.specs.Grammar.{element_of, with_element, allowed_as, allowed, taken}
-use Rattle.records.specs.Judging.{within, capped, finish, rest}
+use Rattle.records.specs.Judging.{capped, finish, rest}
 use Rattle.records.proofs.AgainLaws.{length_from}
 use Rattle.records.proofs.OwingLaws.{rest_allowed, rest_refused, rest_end, capped_same}
 

@@ -4,7 +4,6 @@ use Rattle.format.specs.Parsed.{Parsed, done, refused, and_then, require}
 use Rattle.format.specs.Refusals.{number_of}
 use Rattle.records.specs.declared.Record.{Record}
 use Rattle.records.specs.declared.Before.{Before}
-use Rattle.records.specs.declared.grammar.Judged
 use Rattle.records.specs.declared.grammar.Judged.{Judged}
 use Rattle.records.specs.Grammar.{before_of, judge}
 

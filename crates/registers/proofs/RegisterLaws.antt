@@ -11,7 +11,6 @@ use Rattle.format.specs.declared.Refusal.{Refusal}
 use Rattle.format.specs.Parsed.{Parsed, done, and_then, making, requiring, row_at}
 use Rattle.format.specs.Fields.{field_at, count_at, type_at, flags_at, address_size, fresh}
 use Rattle.registers.specs.declared.RegisterHead as declared
-use Rattle.registers.specs.declared.RegisterHeadRead
 use Rattle.registers.specs.declared.RegisterHeadRead.{RegisterHeadRead}
 use Rattle.format.specs.Tree.{RegisterInstance, Register}
 use Rattle.format.specs.RegisterLayout.{RegisterHead, register_total, register_instance_at, register_head_at, register_at}

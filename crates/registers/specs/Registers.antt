@@ -5,7 +5,6 @@ use Rattle.format.specs.Fields.{count_at, type_at, flags_at}
 use Rattle.format.specs.Tree.{RegisterInstance, Register}
 use Rattle.format.specs.RegisterLayout.{RegisterHead, register_total, register_instance_at}
 use Rattle.fields.specs.Views.{Element, Section, refused_by}
-use Rattle.registers.specs.declared.RegisterHeadRead
 use Rattle.registers.specs.declared.RegisterHeadRead.{RegisterHeadRead}
 
 abbrev pub register_head_parsed : RegisterHeadRead → Parsed RegisterHead

@@ -1,8 +1,7 @@
 -- The invariant: no number in the rows passed passes the test.
-use Rattle.std.proofs.Common.{◌-◌, ◌≤◌, sym, ◌∙◌, arith, rules}
-use borrow.Author.Tests.{not-true, not-false}
+use Rattle.std.proofs.Common.{◌-◌, ◌≤◌}
 use Rattle.cycles.specs.Order.{not_earlier}
-use Rattle.cycles.proofs.OrderLaws.{Passed, passed_none, passed_row, passed_all, row-not, row_short}
+use Rattle.cycles.proofs.OrderLaws.{Passed}
 use Rattle.cycles.proofs.all_backward.Given as goal
 
 abbrev pub invariant-loop-i : goal.invariant-loop-i

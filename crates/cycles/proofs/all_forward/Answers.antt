@@ -1,7 +1,5 @@
-use Rattle.std.proofs.Common.{◌-◌, ◌≤◌, sym, ◌∙◌, arith, rules}
-use borrow.Author.Tests.{not-true, not-false}
-use Rattle.cycles.specs.Order.{not_later}
-use Rattle.cycles.proofs.OrderLaws.{Passed, passed_none, passed_row, passed_all, row-not, row_short}
+use Rattle.std.proofs.Common.{sym, ◌∙◌, arith, rules}
+use Rattle.cycles.proofs.OrderLaws.{passed_none, passed_row, passed_all, row-not, row_short}
 use Rattle.cycles.proofs.all_forward.Goals as goal
 
 pub loop-i-init : goal.loop-i-init

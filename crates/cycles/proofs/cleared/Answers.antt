@@ -1,5 +1,4 @@
-use Rattle.std.proofs.Common.{sym, ◌∙◌, arith, rules}
-use borrow.Author.Tests.{not-false}
+use Rattle.std.proofs.Common.{sym, ◌∙◌, arith}
 use Rattle.cycles.proofs.RankLaws.{ranks_clear}
 use Rattle.cycles.proofs.OrderLaws.{forward_acyclic, backward_acyclic}
 use Rattle.cycles.proofs.cleared.Goals as goal

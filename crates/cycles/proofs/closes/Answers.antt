@@ -1,7 +1,5 @@
-use Rattle.std.proofs.Common.{◌≡◌, ◌-◌, ◌≤◌, false, ◌&&◌, eqb, get_or, sym, ◌∙◌, arith, rules}
-use Rattle.graph.specs.Below.{any}
+use Rattle.std.proofs.Common.{◌≡◌, sym, ◌∙◌, arith, rules}
 use Rattle.graph.proofs.BelowLaws.{any_in}
-use Rattle.cycles.specs.Cycle.{table_edge}
 use Rattle.cycles.proofs.TestsLaws.{any_none, any_more, any_end}
 use Rattle.cycles.proofs.closes.Goals as goal
 

@@ -1,9 +1,7 @@
 -- No instance passed is done and has the child.
-use Rattle.std.proofs.Common.{◌≡◌, ◌-◌, ◌≤◌, false, ◌&&◌, eqb, get_or, sym, ◌∙◌, arith, rules}
+use Rattle.std.proofs.Common.{◌≡◌, ◌-◌, ◌≤◌, false, ◌&&◌, eqb, get_or}
 use Rattle.graph.specs.Below.{any}
-use Rattle.graph.proofs.BelowLaws.{any_in}
 use Rattle.cycles.specs.Cycle.{table_edge}
-use Rattle.cycles.proofs.TestsLaws.{any_none, any_more, any_end}
 use Rattle.cycles.proofs.closes.Given as goal
 
 abbrev pub invariant-loop-j : goal.invariant-loop-j

@@ -1,4 +1,3 @@
-use Rattle.std.proofs.Common.{rules}
 use Rattle.cycles.proofs.TestsLaws.{test_other, test_same}
 use Rattle.cycles.proofs.done_parent.Goals as goal
 

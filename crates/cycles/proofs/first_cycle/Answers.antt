@@ -1,4 +1,4 @@
-use Rattle.std.proofs.Common.{arith, rules}
+use Rattle.std.proofs.Common.{arith}
 use Rattle.cycles.proofs.TableLaws.{looked_most, looked_first}
 use Rattle.cycles.proofs.first_cycle.Goals as goal
 

@@ -1,5 +1,4 @@
-use Rattle.std.proofs.Common.{◌≡◌, ℕ, ◌-◌, ◌<◌, ◌≤◌, false, sym, ◌∙◌, arith, rules, below_more}
-use Rattle.cycles.specs.Cycle.{in_cycle}
+use Rattle.std.proofs.Common.{sym, ◌∙◌, arith, rules, below_more}
 use Rattle.cycles.proofs.FirstLaws.{first_at, first_none}
 use Rattle.cycles.proofs.first_from.Goals as goal
 

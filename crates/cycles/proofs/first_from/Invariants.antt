@@ -1,7 +1,6 @@
 -- No instance passed lies on a cycle.
-use Rattle.std.proofs.Common.{◌≡◌, ℕ, ◌-◌, ◌<◌, ◌≤◌, false, sym, ◌∙◌, arith, rules, below_more}
+use Rattle.std.proofs.Common.{◌≡◌, ℕ, ◌-◌, ◌<◌, ◌≤◌, false}
 use Rattle.cycles.specs.Cycle.{in_cycle}
-use Rattle.cycles.proofs.FirstLaws.{first_at, first_none}
 use Rattle.cycles.proofs.first_from.Given as goal
 
 abbrev pub invariant-loop-i : goal.invariant-loop-i

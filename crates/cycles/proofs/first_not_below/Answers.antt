@@ -1,5 +1,4 @@
-use Rattle.std.proofs.Common.{◌≡◌, ℕ, ◌-◌, ◌*◌, ◌<◌, ◌≤◌, false, leb, sym, ◌∙◌, arith, rules, below_more}
-use Rattle.cycles.specs.Ranks.{ranks_at}
+use Rattle.std.proofs.Common.{◌*◌, ◌<◌, sym, ◌∙◌, arith, rules, below_more}
 use Rattle.cycles.proofs.FirstLaws.{first_at, first_none}
 use Rattle.cycles.proofs.first_not_below.Goals as goal
 

@@ -1,7 +1,6 @@
 -- At no place passed is the child's rank not below its parent's.
-use Rattle.std.proofs.Common.{◌≡◌, ℕ, ◌-◌, ◌*◌, ◌<◌, ◌≤◌, false, leb, sym, ◌∙◌, arith, rules, below_more}
+use Rattle.std.proofs.Common.{◌≡◌, ℕ, ◌-◌, ◌*◌, ◌<◌, ◌≤◌, false, leb}
 use Rattle.cycles.specs.Ranks.{ranks_at}
-use Rattle.cycles.proofs.FirstLaws.{first_at, first_none}
 use Rattle.cycles.proofs.first_not_below.Given as goal
 
 abbrev pub invariant-loop-k : goal.invariant-loop-k

@@ -1,7 +1,4 @@
-use Rattle.std.proofs.Common.{◌≡◌, ◌+◌, ◌-◌, ◌*◌, ◌≤◌, false, sym, ◌∙◌, arith, rules}
-use Rattle.graph.specs.Below.{any}
-use Rattle.graph.specs.Chains.{names}
-use Rattle.walk.specs.TableGraph.{child_at}
+use Rattle.std.proofs.Common.{◌≡◌, sym, ◌∙◌, arith, rules}
 use Rattle.cycles.proofs.TestsLaws.{any_none, any_more, any_end}
 use Rattle.cycles.proofs.TableLaws.{edge_in, edge_any}
 use Rattle.cycles.proofs.has_child.Goals as goal

@@ -1,10 +1,8 @@
 -- No place passed holds the child.
-use Rattle.std.proofs.Common.{◌≡◌, ◌+◌, ◌-◌, ◌*◌, ◌≤◌, false, sym, ◌∙◌, arith, rules}
+use Rattle.std.proofs.Common.{◌≡◌, ◌+◌, ◌-◌, ◌*◌, ◌≤◌, false}
 use Rattle.graph.specs.Below.{any}
 use Rattle.graph.specs.Chains.{names}
 use Rattle.walk.specs.TableGraph.{child_at}
-use Rattle.cycles.proofs.TestsLaws.{any_none, any_more, any_end}
-use Rattle.cycles.proofs.TableLaws.{edge_in, edge_any}
 use Rattle.cycles.proofs.has_child.Given as goal
 
 abbrev pub invariant-loop-b : goal.invariant-loop-b

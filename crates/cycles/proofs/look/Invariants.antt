@@ -1,4 +1,4 @@
-use Rattle.std.proofs.Common.{◌-◌, ◌≤◌, rules}
+use Rattle.std.proofs.Common.{◌-◌, ◌≤◌}
 use Rattle.cycles.proofs.look.Given as goal
 
 abbrev pub invariant-loop-b : goal.invariant-loop-b

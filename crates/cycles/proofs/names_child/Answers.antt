@@ -1,4 +1,3 @@
-use Rattle.std.proofs.Common.{rules}
 use Rattle.cycles.proofs.TableLaws.{names_test}
 use Rattle.cycles.proofs.names_child.Goals as goal
 

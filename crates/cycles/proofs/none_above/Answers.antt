@@ -1,6 +1,5 @@
-use Rattle.std.proofs.Common.{◌≡◌, ℕ, ◌-◌, ◌*◌, ◌<◌, ◌≤◌, false, ltb, sym, refl, ◌∙◌, arith, rules, below_more}
+use Rattle.std.proofs.Common.{sym, refl, ◌∙◌, arith, below_more}
 use Rattle.numbers.proofs.Bools.{clash}
-use Rattle.cycles.specs.Ranks.{ranks_at}
 use Rattle.cycles.proofs.none_above.Goals as goal
 
 pub loop-k-init : goal.loop-k-init

@@ -1,6 +1,5 @@
 -- At no place passed is the child's rank above its parent's.
-use Rattle.std.proofs.Common.{◌≡◌, ℕ, ◌-◌, ◌*◌, ◌<◌, ◌≤◌, false, ltb, sym, refl, ◌∙◌, arith, rules, below_more}
-use Rattle.numbers.proofs.Bools.{clash}
+use Rattle.std.proofs.Common.{◌≡◌, ℕ, ◌-◌, ◌*◌, ◌<◌, ◌≤◌, false, ltb}
 use Rattle.cycles.specs.Ranks.{ranks_at}
 use Rattle.cycles.proofs.none_above.Given as goal
 

@@ -1,6 +1,5 @@
-use Rattle.std.proofs.Common.{◌-◌, ◌<◌, ◌≤◌, length, ⊎_elim, arith, rules}
-use Rattle.cycles.specs.Order.{not_earlier}
-use Rattle.cycles.proofs.OrderLaws.{Flagged, flag_none, flag-set, flag_kept, flag_end, ahead-not, ahead}
+use Rattle.std.proofs.Common.{◌<◌, arith, rules}
+use Rattle.cycles.proofs.OrderLaws.{flag_none, flag-set, flag_kept, flag_end, ahead-not, ahead}
 use Rattle.cycles.proofs.row_backward.Goals as goal
 use Rattle.cycles.proofs.row_backward.Goals.{then-ahead-span, else-ahead-span}
 
@@ -15,7 +14,7 @@ loop-b-preserved c =
     let k : c.wrapping_sub_u16-ahead.result < 65536 = search rules in (
       search rules,
       elim c.if-ahead-span.branch [
-        then-ahead-span w ↦ flag-set _ _ c.loop-b.invariant.1 (ahead-not _ _ _ _ c.wrapping_sub_u16-ahead.ensures.value k c.ranges.n.fits w.if-ahead-span.true) w.bad-is
-      | else-ahead-span w ↦ flag_kept _ _ c.loop-b.invariant.1 (ahead _ _ _ _ c.wrapping_sub_u16-ahead.ensures.value k c.ranges.n.fits w.if-ahead-span.false c.requires) w.bad-is
+        | then-ahead-span w ↦ flag-set _ _ c.loop-b.invariant.1 (ahead-not _ _ _ _ c.wrapping_sub_u16-ahead.ensures.value k c.ranges.n.fits w.if-ahead-span.true) w.bad-is
+        | else-ahead-span w ↦ flag_kept _ _ c.loop-b.invariant.1 (ahead _ _ _ _ c.wrapping_sub_u16-ahead.ensures.value k c.ranges.n.fits w.if-ahead-span.false c.requires) w.bad-is
       ],
     )

@@ -1,7 +1,7 @@
 -- The invariant: a number passed the test exactly where bad is 1.
-use Rattle.std.proofs.Common.{◌-◌, ◌<◌, ◌≤◌, length, ⊎_elim, arith, rules}
+use Rattle.std.proofs.Common.{◌-◌, ◌≤◌, length}
 use Rattle.cycles.specs.Order.{not_earlier}
-use Rattle.cycles.proofs.OrderLaws.{Flagged, flag_none, flag-set, flag_kept, flag_end, ahead-not, ahead}
+use Rattle.cycles.proofs.OrderLaws.{Flagged}
 use Rattle.cycles.proofs.row_backward.Given as goal
 
 abbrev pub invariant-loop-b : goal.invariant-loop-b

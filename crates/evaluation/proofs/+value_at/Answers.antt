@@ -1,15 +1,8 @@
-use Prim.Native.Nat.{ℕ, ◌-◌, ◌<◌}
-use mathlib.Core.Path.{◌≡◌}
 use borrow.Author.Rules.{rules}
 use native.Mathlib.Omega.{arith}
-use Rattle.format.specs.ExpressionLayout.{expr_at}
-use Rattle.format.specs.Parsed.{done}
-use Rattle.format.specs.Tree.{Expr}
-use Rattle.tables.specs.Indexed.{IndexOf}
-use Rattle.evaluation.specs.Value.{word_in, unread_in}
 use Rattle.expressions.proofs.HeadLaws.{open_level}
-use Rattle.expressions.proofs.OperandsLaws.{Ahead, headless}
-use Rattle.evaluation.proofs.ValueLaws.{Pending, value_head, value_more, value_end}
+use Rattle.expressions.proofs.OperandsLaws.{headless}
+use Rattle.evaluation.proofs.ValueLaws.{value_head, value_more, value_end}
 use Rattle.evaluation.proofs.+value_at.Goals as goal
 
 pub loop-ahead-init : goal.loop-ahead-init

@@ -1,4 +1,3 @@
-use borrow.Author.Rules.{rules}
 use Rattle.evaluation.proofs.ValueLaws.{joined_first, joined_later}
 use Rattle.evaluation.proofs.joined.Goals as goal
 

@@ -1,5 +1,4 @@
 use native.Mathlib.Omega.{arith}
-use borrow.Author.Rules.{rules}
 use Rattle.evaluation.proofs.ValueLaws.{own_constant, own_all, own_any, own_inverse, own_left, own_right}
 use Rattle.evaluation.proofs.own_value.Goals as goal
 

@@ -1,5 +1,4 @@
 use native.Mathlib.Omega.{arith}
-use borrow.Author.Rules.{rules}
 use Rattle.evaluation.proofs.ValueLaws.{own_read, own_unread}
 use Rattle.evaluation.proofs.reading_value.Goals as goal
 

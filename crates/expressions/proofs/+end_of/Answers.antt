@@ -1,11 +1,5 @@
-use Prim.Native.Nat.{ℕ, ◌-◌, ◌<◌}
-use mathlib.Core.Path.{◌≡◌, refl}
-use mathlib.Core.List.{[]}
-use borrow.Author.Rules.{rules}
+use mathlib.Core.Path.{refl}
 use native.Mathlib.Omega.{arith}
-use Rattle.format.specs.Parsed.{row_at}
-use Rattle.format.specs.ExpressionLayout.{expr_at}
-use Rattle.fields.specs.Views.{forget}
 use Rattle.expressions.proofs.HeadLaws.{down_none}
 use Rattle.expressions.proofs.OpeningLaws.{unsaid, opening_level, opening_row, down_on}
 use Rattle.expressions.proofs.+end_of.Goals as goal

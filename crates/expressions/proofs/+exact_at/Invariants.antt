@@ -1,12 +1,9 @@
-use Prim.Native.Nat.{ℕ, ◌-◌, ◌<◌}
-use mathlib.Core.Path.{◌≡◌, refl}
+use Prim.Native.Nat.{◌-◌, ◌<◌}
+use mathlib.Core.Path.{◌≡◌}
 use mathlib.Core.List.{[]}
-use borrow.Author.Rules.{rules}
-use native.Mathlib.Omega.{arith}
 use Rattle.format.specs.Parsed.{row_at}
 use Rattle.format.specs.ExpressionLayout.{expr_at}
 use Rattle.fields.specs.Views.{forget}
-use Rattle.expressions.proofs.HeadLaws.{open-laws, down_none, down_no, down_more}
 use Rattle.expressions.proofs.+exact_at.Given as goal
 
 abbrev pub invariant-loop-left : goal.invariant-loop-left

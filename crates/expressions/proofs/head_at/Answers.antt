@@ -1,4 +1,3 @@
-use borrow.Author.Rules.{rules}
 use Rattle.expressions.proofs.HeadLaws.{head-laws}
 use Rattle.expressions.proofs.head_at.Goals as goal
 

@@ -1,6 +1,5 @@
 use Prim.Native.Nat.{◌+◌}
 use native.Mathlib.Omega.{arith}
-use borrow.Author.Rules.{rules}
 use Rattle.expressions.proofs.OpeningLaws.{openings, unsaid}
 use Rattle.expressions.proofs.opening_at.Goals as goal
 

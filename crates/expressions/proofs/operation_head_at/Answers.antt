@@ -1,4 +1,3 @@
-use borrow.Author.Rules.{rules}
 use borrow.Author.Tests.{ne_eqb}
 use Rattle.format.specs.ExpressionLayout.{operation_of}
 use Rattle.expressions.specs.Heads.{operation_head_at}

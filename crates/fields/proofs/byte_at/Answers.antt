@@ -1,4 +1,3 @@
-use borrow.Author.Rules.{rules}
 use Rattle.fields.proofs.FieldLaws.{field_laws}
 use Rattle.fields.proofs.byte_at.Goals as goal
 

@@ -1,5 +1,4 @@
 use native.Mathlib.Omega.{arith}
-use borrow.Author.Rules.{rules}
 use Rattle.fields.proofs.FieldLaws.{keyword_cut, keyword_found, keyword_wrong}
 use Rattle.fields.proofs.keyword_at.Goals as goal
 

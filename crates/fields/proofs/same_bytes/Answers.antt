@@ -1,8 +1,5 @@
-use Prim.Native.Nat.{◌≤◌, ◌-◌}
-use mathlib.Core.Path.{◌≡◌, refl, sym, ◌∙◌}
+use mathlib.Core.Path.{refl, sym, ◌∙◌}
 use native.Mathlib.Omega.{arith}
-use lib.ListN.{length, drop}
-use Rattle.format.specs.Fields.{same}
 use Rattle.fields.proofs.FieldLaws.{same_lengths, same_more, same_no, same_end}
 use Rattle.fields.proofs.same_bytes.Goals as goal
 

@@ -1,10 +1,8 @@
 -- The invariant: the bytes so far are the same, so that the rest decides.
 use Prim.Native.Nat.{◌≤◌, ◌-◌}
-use mathlib.Core.Path.{◌≡◌, refl, sym, ◌∙◌}
-use native.Mathlib.Omega.{arith}
+use mathlib.Core.Path.{◌≡◌}
 use lib.ListN.{length, drop}
 use Rattle.format.specs.Fields.{same}
-use Rattle.fields.proofs.FieldLaws.{same_lengths, same_more, same_no, same_end}
 use Rattle.fields.proofs.same_bytes.Given as goal
 
 abbrev pub invariant-loop-i : goal.invariant-loop-i

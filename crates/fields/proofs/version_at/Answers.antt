@@ -1,4 +1,3 @@
-use borrow.Author.Rules.{rules}
 use Rattle.fields.proofs.Steps.{steps}
 use Rattle.fields.proofs.FieldLaws.{one_laws}
 use Rattle.fields.proofs.version_at.Goals as goal

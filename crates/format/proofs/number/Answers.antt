@@ -1,4 +1,3 @@
-use borrow.Author.Rules.{rules}
 use Rattle.format.proofs.number.Goals as goal
 
 pub returns-in-FileTooLong : goal.returns-in-FileTooLong

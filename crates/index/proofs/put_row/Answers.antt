@@ -1,4 +1,3 @@
-use borrow.Author.Rules.{rules}
 use Rattle.index.specs.Rows.{put_row}
 use Rattle.index.proofs.put_row.Goals as goal
 

@@ -1,10 +1,6 @@
-use Prim.Native.Nat.{◌-◌}
-use mathlib.Core.Path.{◌≡◌, refl, sym, ◌∙◌}
+use mathlib.Core.Path.{refl, sym, ◌∙◌}
 use native.Mathlib.Omega.{arith}
 use borrow.Author.Rules.{rules}
-use lib.ListN.{length}
-use Rattle.tables.specs.Tables.{written}
-use Rattle.links.specs.Links.{childless}
 use Rattle.links.proofs.ChildrenLaws.{cleared_whole, cleared_on, cleared_end}
 use Rattle.links.proofs.fill.Goals as goal
 

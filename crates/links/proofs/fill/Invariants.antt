@@ -1,12 +1,9 @@
 -- The invariant: with the places to come cleared, all places are.
 use Prim.Native.Nat.{◌-◌}
-use mathlib.Core.Path.{◌≡◌, refl, sym, ◌∙◌}
-use native.Mathlib.Omega.{arith}
-use borrow.Author.Rules.{rules}
+use mathlib.Core.Path.{◌≡◌}
 use lib.ListN.{length}
 use Rattle.tables.specs.Tables.{written}
 use Rattle.links.specs.Links.{childless}
-use Rattle.links.proofs.ChildrenLaws.{cleared_whole, cleared_on, cleared_end}
 use Rattle.links.proofs.fill.Given as goal
 
 abbrev pub invariant-loop-i : goal.invariant-loop-i

@@ -1,5 +1,4 @@
 use native.Mathlib.Omega.{arith}
-use borrow.Author.Rules.{rules}
 use Rattle.tables.proofs.TablesLaws.{set_beyond}
 use Rattle.links.proofs.put_link.Goals as goal
 

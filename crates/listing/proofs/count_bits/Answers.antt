@@ -1,10 +1,8 @@
-use Prim.Native.Nat.{◌≤◌, ◌-◌}
 use mathlib.Core.Path.{◌≡◌}
 use borrow.Author.Rules.{rules}
 use native.Mathlib.Omega.{arith}
 use lib.Count.{ones-le}
 use lib.ListN.{get_or}
-use Rattle.listing.specs.Rows.{first_rows, kept_count}
 use Rattle.listing.proofs.WordLaws.{set-ones}
 use Rattle.listing.proofs.KeptLaws.{most_rows, count_none, count_next, count_few}
 use Rattle.listing.proofs.count_bits.Goals as goal

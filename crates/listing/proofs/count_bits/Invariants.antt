@@ -1,13 +1,7 @@
 -- The invariant: the bits of the first i rows have been counted.
 use Prim.Native.Nat.{◌≤◌, ◌-◌}
 use mathlib.Core.Path.{◌≡◌}
-use borrow.Author.Rules.{rules}
-use native.Mathlib.Omega.{arith}
-use lib.Count.{ones-le}
-use lib.ListN.{get_or}
 use Rattle.listing.specs.Rows.{first_rows, kept_count}
-use Rattle.listing.proofs.WordLaws.{set-ones}
-use Rattle.listing.proofs.KeptLaws.{most_rows, count_none, count_next, count_few}
 use Rattle.listing.proofs.count_bits.Given as goal
 
 abbrev pub invariant-loop-i : goal.invariant-loop-i

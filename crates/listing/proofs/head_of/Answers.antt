@@ -1,5 +1,4 @@
 use mathlib.Core.Path.{refl}
-use borrow.Author.Rules.{rules}
 use Rattle.listing.specs.Rows.{head_of}
 use Rattle.listing.proofs.head_of.Goals as goal
 

@@ -1,4 +1,3 @@
-use borrow.Author.Rules.{rules}
 use Rattle.listing.proofs.RowsLaws.{done_none, done_there}
 use Rattle.listing.proofs.is_done.Goals as goal
 

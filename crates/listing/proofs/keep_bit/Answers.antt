@@ -1,5 +1,4 @@
 use Rattle.listing.proofs.PassLaws.{bit_kept, bit_passed}
-use borrow.Author.Rules.{rules}
 use Rattle.listing.proofs.keep_bit.Goals as goal
 
 pub returns-then-listable : goal.returns-then-listable

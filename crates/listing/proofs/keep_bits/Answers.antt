@@ -1,10 +1,8 @@
 use mathlib.Core.Path.{◌≡◌}
-use borrow.Author.Rules.{rules}
-use lib.Count.{ones}
 use native.Mathlib.Omega.{arith}
 use Rattle.numbers.proofs.TakenLaws.{taken_in, taken-set, taken_less}
 use Rattle.walk.proofs.Tables.{size_few}
-use Rattle.listing.proofs.PassLaws.{Gathered, gathered_none, gathered_next, gathered_all}
+use Rattle.listing.proofs.PassLaws.{gathered_none, gathered_next, gathered_all}
 use Rattle.listing.proofs.keep_bits.Goals as goal
 
 pub offset_bounds-active-i : goal.offset_bounds-active-i

@@ -1,5 +1,4 @@
 use native.Mathlib.Omega.{arith}
-use borrow.Author.Rules.{rules}
 use Rattle.walk.proofs.Tables.{size_few}
 use Rattle.listing.proofs.KeptLaws.{table_kept}
 use Rattle.listing.proofs.keep_list.Goals as goal

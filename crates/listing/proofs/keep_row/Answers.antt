@@ -1,5 +1,4 @@
 use native.Mathlib.Omega.{arith}
-use borrow.Author.Rules.{rules}
 use Rattle.listing.proofs.KeptLaws.{row_passed, row_stored}
 use Rattle.listing.proofs.keep_row.Goals as goal
 

@@ -1,10 +1,7 @@
 use mathlib.Core.Path.{◌≡◌, refl, ◌∙◌}
-use Prim.Native.Nat.{◌≤◌, ◌-◌}
 use borrow.Author.Rules.{rules}
 use native.Mathlib.Omega.{arith}
 use lib.ListN.{length}
-use Rattle.walk.specs.TableGraph.{table_graph}
-use Rattle.listing.specs.Rows.{first_rows, RowsKept}
 use Rattle.listing.proofs.KeptLaws.{kept_none, kept_next, kept_end, head_keyed}
 use Rattle.listing.proofs.keep_rows.Goals as goal
 

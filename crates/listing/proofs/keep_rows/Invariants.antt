@@ -1,12 +1,9 @@
 -- The invariant: the first k rows have the listed bits of the first i node instances.
-use mathlib.Core.Path.{◌≡◌, refl, ◌∙◌}
+use mathlib.Core.Path.{◌≡◌}
 use Prim.Native.Nat.{◌≤◌, ◌-◌}
-use borrow.Author.Rules.{rules}
-use native.Mathlib.Omega.{arith}
 use lib.ListN.{length}
 use Rattle.walk.specs.TableGraph.{table_graph}
 use Rattle.listing.specs.Rows.{first_rows, RowsKept}
-use Rattle.listing.proofs.KeptLaws.{kept_none, kept_next, kept_end, head_keyed}
 use Rattle.listing.proofs.keep_rows.Given as goal
 
 abbrev pub invariant-loop-i : goal.invariant-loop-i

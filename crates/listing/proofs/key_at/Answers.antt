@@ -1,6 +1,5 @@
 use mathlib.Core.Path.{refl, sym}
 use lib.ListN.{get_or-eq_default}
-use borrow.Author.Rules.{rules}
 use Rattle.listing.proofs.key_at.Goals as goal
 
 pub returns-then-keys-i : goal.returns-then-keys-i

@@ -1,7 +1,6 @@
 use native.Mathlib.Omega.{arith}
 use Rattle.walk.proofs.Tables.{size_few}
 use Rattle.listing.proofs.RowsLaws.{listable_childless, listable_child}
-use borrow.Author.Rules.{rules}
 use Rattle.listing.proofs.listable.Goals as goal
 
 pub overflow_mul-i : goal.overflow_mul-i

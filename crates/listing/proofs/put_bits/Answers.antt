@@ -1,8 +1,7 @@
 use borrow.Author.Rules.{rules}
-use lib.Count.{ones}
 use native.Mathlib.Omega.{arith}
 use Rattle.numbers.proofs.TakenLaws.{taken_less}
-use Rattle.listing.proofs.PassLaws.{Recorded, recorded_none, recorded_room, recorded_next, recorded_all}
+use Rattle.listing.proofs.PassLaws.{recorded_none, recorded_room, recorded_next, recorded_all}
 use Rattle.listing.proofs.put_bits.Goals as goal
 
 pub loop-unwritten-init : goal.loop-unwritten-init

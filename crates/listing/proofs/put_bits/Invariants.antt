@@ -1,9 +1,6 @@
 -- The invariant: the records of the bits that were taken have been written, and the rest is as it was. The measure is how many are left: one pass for each bit of the word.
-use borrow.Author.Rules.{rules}
 use lib.Count.{ones}
-use native.Mathlib.Omega.{arith}
-use Rattle.numbers.proofs.TakenLaws.{taken_less}
-use Rattle.listing.proofs.PassLaws.{Recorded, recorded_none, recorded_room, recorded_next, recorded_all}
+use Rattle.listing.proofs.PassLaws.{Recorded}
 use Rattle.listing.proofs.put_bits.Given as goal
 
 abbrev pub invariant-loop-unwritten : goal.invariant-loop-unwritten

@@ -1,7 +1,6 @@
 use native.Mathlib.Omega.{arith}
 use lib.ListN.{length-set}
 use Rattle.listing.proofs.RowsLaws.{record_put}
-use borrow.Author.Rules.{rules}
 use Rattle.listing.proofs.put_record.Goals as goal
 
 pub bounds-list-at-2 : goal.bounds-list-at-2

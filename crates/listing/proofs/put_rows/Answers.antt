@@ -1,9 +1,7 @@
-use Prim.Native.Nat.{◌≤◌, ◌-◌}
 use mathlib.Core.Path.{◌≡◌}
 use borrow.Author.Rules.{rules}
 use native.Mathlib.Omega.{arith}
 use lib.ListN.{get_or}
-use Rattle.listing.specs.Rows.{first_rows, kept_records, Wrote}
 use Rattle.listing.proofs.WriteLaws.{kept_started, kept_wrote, kept_room, word-length}
 use Rattle.listing.proofs.put_rows.Goals as goal
 

@@ -1,5 +1,4 @@
 use Rattle.listing.proofs.WordLaws.{row_yes, row_no}
-use borrow.Author.Rules.{rules}
 use Rattle.listing.proofs.row_word.Goals as goal
 
 pub returns-then-is_done : goal.returns-then-is_done

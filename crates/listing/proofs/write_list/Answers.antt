@@ -1,7 +1,6 @@
 use native.Mathlib.Omega.{arith}
 use Rattle.listing.proofs.KeptLaws.{most_rows}
 use Rattle.listing.proofs.WriteLaws.{room_yes, room_no, list_written, list_kept}
-use borrow.Author.Rules.{rules}
 use Rattle.listing.proofs.write_list.Goals as goal
 
 pub returns-then-n-gt-BOARD_NODE_INSTANCES : goal.returns-then-n-gt-BOARD_NODE_INSTANCES

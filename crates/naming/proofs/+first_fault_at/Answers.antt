@@ -1,15 +1,7 @@
-use Prim.Native.Nat.{ℕ, ◌-◌, ◌<◌}
-use mathlib.Core.Path.{◌≡◌}
-use borrow.Author.Rules.{rules}
 use native.Mathlib.Omega.{arith}
-use Rattle.format.specs.ExpressionLayout.{expr_at}
-use Rattle.format.specs.Parsed.{done}
-use Rattle.format.specs.Tree.{Expr}
-use Rattle.tables.specs.Faults.{name_faults}
-use Rattle.tables.specs.Indexed.{IndexOf}
 use Rattle.expressions.proofs.HeadLaws.{open_level}
-use Rattle.expressions.proofs.OperandsLaws.{Ahead, headless}
-use Rattle.naming.proofs.JudgedLaws.{Judged, judged_head, judged_head_no, judged_no, judged_more, judged_end}
+use Rattle.expressions.proofs.OperandsLaws.{headless}
+use Rattle.naming.proofs.JudgedLaws.{judged_head, judged_head_no, judged_no, judged_more, judged_end}
 use Rattle.naming.proofs.+first_fault_at.Goals as goal
 
 pub loop-left-init : goal.loop-left-init

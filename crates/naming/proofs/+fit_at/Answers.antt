@@ -1,10 +1,6 @@
-use Prim.Native.Nat.{ℕ, ◌-◌, ◌<◌}
-use borrow.Author.Rules.{rules}
 use native.Mathlib.Omega.{arith}
-use Rattle.tables.specs.Faults.{name_faults}
-use Rattle.tables.specs.Indexed.{IndexOf}
 use Rattle.expressions.proofs.OpeningLaws.{unsaid, opening_level}
-use Rattle.naming.proofs.FitLaws.{FitAhead, fit_reading, fit_opened, fit_more, fit_end}
+use Rattle.naming.proofs.FitLaws.{fit_reading, fit_opened, fit_more, fit_end}
 use Rattle.naming.proofs.+fit_at.Goals as goal
 
 pub returns-then-o-eq0 : goal.returns-then-o-eq0

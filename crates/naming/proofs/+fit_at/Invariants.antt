@@ -1,10 +1,7 @@
-use Prim.Native.Nat.{ℕ, ◌-◌, ◌<◌}
-use borrow.Author.Rules.{rules}
-use native.Mathlib.Omega.{arith}
+use Prim.Native.Nat.{◌<◌}
 use Rattle.tables.specs.Faults.{name_faults}
 use Rattle.tables.specs.Indexed.{IndexOf}
-use Rattle.expressions.proofs.OpeningLaws.{unsaid, opening_level}
-use Rattle.naming.proofs.FitLaws.{FitAhead, fit_reading, fit_opened, fit_more, fit_end}
+use Rattle.naming.proofs.FitLaws.{FitAhead}
 use Rattle.naming.proofs.+fit_at.Given as goal
 
 abbrev pub invariant-loop-left : goal.invariant-loop-left

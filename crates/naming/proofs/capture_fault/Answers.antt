@@ -1,4 +1,3 @@
-use borrow.Author.Rules.{rules}
 use Rattle.tables.specs.Kinds.{readable_kind}
 use Rattle.naming.proofs.JudgedLaws.{register_judged}
 use Rattle.naming.proofs.capture_fault.Goals as goal

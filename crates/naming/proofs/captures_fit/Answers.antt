@@ -1,11 +1,7 @@
-use Prim.Native.Nat.{◌+◌, ◌*◌, ◌-◌, ◌≤◌}
-use mathlib.Core.Path.{◌≡◌, refl}
-use lib.ListN.{length}
+use mathlib.Core.Path.{refl}
 use native.Mathlib.Omega.{arith}
-use borrow.Author.Rules.{rules}
 use Rattle.numbers.proofs.Bools.{clash}
-use Rattle.tables.specs.Indexed.{IndexOf}
-use Rattle.naming.proofs.FitRowsLaws.{FittingCaptures, captures_begin, captures_next, captures_end}
+use Rattle.naming.proofs.FitRowsLaws.{captures_begin, captures_next, captures_end}
 use Rattle.naming.proofs.captures_fit.Goals as goal
 
 pub returns-then-s-at : goal.returns-then-s-at

@@ -1,12 +1,9 @@
 -- The invariant: the captures so far are read and fit, and the bytes of those that are left are there.
-use Prim.Native.Nat.{◌+◌, ◌*◌, ◌-◌, ◌≤◌}
-use mathlib.Core.Path.{◌≡◌, refl}
+use Prim.Native.Nat.{◌+◌, ◌*◌, ◌≤◌}
+use mathlib.Core.Path.{◌≡◌}
 use lib.ListN.{length}
-use native.Mathlib.Omega.{arith}
-use borrow.Author.Rules.{rules}
-use Rattle.numbers.proofs.Bools.{clash}
 use Rattle.tables.specs.Indexed.{IndexOf}
-use Rattle.naming.proofs.FitRowsLaws.{FittingCaptures, captures_begin, captures_next, captures_end}
+use Rattle.naming.proofs.FitRowsLaws.{FittingCaptures}
 use Rattle.naming.proofs.captures_fit.Given as goal
 
 abbrev pub invariant-loop-left : goal.invariant-loop-left

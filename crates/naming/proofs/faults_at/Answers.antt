@@ -1,4 +1,3 @@
-use borrow.Author.Rules.{rules}
 use Rattle.naming.proofs.faults_at.Goals as goal
 
 pub returns-then-next-ne0 : goal.returns-then-next-ne0

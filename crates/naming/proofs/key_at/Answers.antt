@@ -1,6 +1,5 @@
 use Prim.Native.Nat.{◌+◌}
 use native.Mathlib.Omega.{arith}
-use borrow.Author.Rules.{rules}
 use Rattle.naming.proofs.FitLaws.{key_bytes}
 use Rattle.naming.proofs.key_at.Goals as goal
 

@@ -1,5 +1,4 @@
 use mathlib.Core.Path.{refl}
-use borrow.Author.Rules.{rules}
 use Rattle.numbers.proofs.Bools.{clash}
 use Rattle.naming.proofs.FitLaws.{key_found}
 use Rattle.naming.proofs.key_fits.Goals as goal

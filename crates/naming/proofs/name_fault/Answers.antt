@@ -1,4 +1,3 @@
-use borrow.Author.Rules.{rules}
 use Rattle.naming.proofs.JudgedLaws.{name_judged}
 use Rattle.naming.proofs.name_fault.Goals as goal
 

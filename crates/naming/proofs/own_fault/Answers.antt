@@ -1,5 +1,4 @@
 use mathlib.Core.Path.{ap}
-use borrow.Author.Rules.{rules}
 use Rattle.expressions.specs.Names.{own_names}
 use Rattle.naming.proofs.JudgedLaws.{nameless}
 use Rattle.naming.proofs.own_fault.Goals as goal

@@ -1,9 +1,7 @@
-use mathlib.Core.Path.{◌≡◌, refl}
-use lib.ListN.{length, length-set}
-use borrow.Author.Rules.{rules}
-use Rattle.tables.specs.Indexed.{IndexOf}
+use mathlib.Core.Path.{refl}
+use lib.ListN.{length-set}
 use Rattle.expressions.proofs.OpeningLaws.{unsaid}
-use Rattle.naming.proofs.FitRowsLaws.{FittingRules, rules_begin, rules_next, rules_end}
+use Rattle.naming.proofs.FitRowsLaws.{rules_begin, rules_next, rules_end}
 use Rattle.naming.proofs.rules_fit.Goals as goal
 
 pub loop-left-init : goal.loop-left-init

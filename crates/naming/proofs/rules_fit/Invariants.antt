@@ -1,10 +1,8 @@
 -- The invariant: the rules so far are read and fit, and the marks tell their attention types.
-use mathlib.Core.Path.{◌≡◌, refl}
-use lib.ListN.{length, length-set}
-use borrow.Author.Rules.{rules}
+use mathlib.Core.Path.{◌≡◌}
+use lib.ListN.{length}
 use Rattle.tables.specs.Indexed.{IndexOf}
-use Rattle.expressions.proofs.OpeningLaws.{unsaid}
-use Rattle.naming.proofs.FitRowsLaws.{FittingRules, rules_begin, rules_next, rules_end}
+use Rattle.naming.proofs.FitRowsLaws.{FittingRules}
 use Rattle.naming.proofs.rules_fit.Given as goal
 
 abbrev pub invariant-loop-left : goal.invariant-loop-left

@@ -1,7 +1,6 @@
 use Prim.Native.Nat.{◌+◌}
 use mathlib.Core.Path.{refl}
 use native.Mathlib.Omega.{arith}
-use borrow.Author.Rules.{rules}
 use Rattle.expressions.proofs.OpeningLaws.{unsaid}
 use Rattle.node_pass.proofs.NodeLaws.{head_passed}
 use Rattle.node_pass.proofs.head_pass.Goals as goal

@@ -1,6 +1,5 @@
 use mathlib.Core.Path.{refl}
 use native.Mathlib.Omega.{arith}
-use borrow.Author.Rules.{rules}
 use Rattle.expressions.proofs.OpeningLaws.{unsaid}
 use Rattle.node_pass.proofs.InstanceLaws.{instance_passed}
 use Rattle.node_pass.proofs.instance_pass.Goals as goal

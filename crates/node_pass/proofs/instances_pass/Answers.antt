@@ -1,12 +1,8 @@
-use Prim.Native.Nat.{◌+◌, ◌≤◌}
-use mathlib.Core.Path.{◌≡◌, refl, ◌∙◌}
+use mathlib.Core.Path.{refl, ◌∙◌}
 use native.Mathlib.Omega.{arith}
-use borrow.Author.Rules.{rules}
-use lib.ListN.{length}
 use Rattle.expressions.proofs.OpeningLaws.{unsaid}
-use Rattle.tables.specs.Indexed.{IndexOf}
-use Rattle.index.proofs.FillingLaws.{Sized, sized_put}
-use Rattle.node_pass.proofs.InstanceLaws.{Instances, instances_begin, instances_next, instances_end}
+use Rattle.index.proofs.FillingLaws.{sized_put}
+use Rattle.node_pass.proofs.InstanceLaws.{instances_begin, instances_next, instances_end}
 use Rattle.node_pass.proofs.instances_pass.Goals as goal
 
 pub loop-left-init : goal.loop-left-init

@@ -1,13 +1,10 @@
 -- The invariant: the tables keep their lengths, there is room for those that are left, and these decide.
 use Prim.Native.Nat.{◌+◌, ◌≤◌}
-use mathlib.Core.Path.{◌≡◌, refl, ◌∙◌}
-use native.Mathlib.Omega.{arith}
-use borrow.Author.Rules.{rules}
+use mathlib.Core.Path.{◌≡◌}
 use lib.ListN.{length}
-use Rattle.expressions.proofs.OpeningLaws.{unsaid}
 use Rattle.tables.specs.Indexed.{IndexOf}
-use Rattle.index.proofs.FillingLaws.{Sized, sized_put}
-use Rattle.node_pass.proofs.InstanceLaws.{Instances, instances_begin, instances_next, instances_end}
+use Rattle.index.proofs.FillingLaws.{Sized}
+use Rattle.node_pass.proofs.InstanceLaws.{Instances}
 use Rattle.node_pass.proofs.instances_pass.Given as goal
 
 abbrev pub invariant-loop-left : goal.invariant-loop-left

@@ -1,5 +1,4 @@
 use mathlib.Core.Path.{refl, sym, ◌∙◌, ap}
-use borrow.Author.Rules.{rules}
 use Rattle.expressions.proofs.OpeningLaws.{unsaid}
 use Rattle.fields.specs.Views.{next_parsed}
 use Rattle.node_pass.proofs.NamesLaws.{names_fit, names_read}

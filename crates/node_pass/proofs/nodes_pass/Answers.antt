@@ -1,12 +1,7 @@
-use Prim.Native.Nat.{◌≤◌}
-use mathlib.Core.Path.{◌≡◌, refl, ◌∙◌}
+use mathlib.Core.Path.{refl, ◌∙◌}
 use native.Mathlib.Omega.{arith}
-use borrow.Author.Rules.{rules}
-use lib.ListN.{length}
 use Rattle.expressions.proofs.OpeningLaws.{unsaid}
-use Rattle.tables.specs.Indexed.{IndexOf}
-use Rattle.index.proofs.FillingLaws.{Sized}
-use Rattle.node_pass.proofs.NodeLaws.{Nodes, nodes_begin, nodes_next, nodes_end}
+use Rattle.node_pass.proofs.NodeLaws.{nodes_begin, nodes_next, nodes_end}
 use Rattle.node_pass.proofs.nodes_pass.Goals as goal
 
 pub loop-left-init : goal.loop-left-init

@@ -1,13 +1,10 @@
 -- The invariant: the tables keep their lengths, the nodes so far have no more instances than there may be, and those that are left decide.
 use Prim.Native.Nat.{◌≤◌}
-use mathlib.Core.Path.{◌≡◌, refl, ◌∙◌}
-use native.Mathlib.Omega.{arith}
-use borrow.Author.Rules.{rules}
+use mathlib.Core.Path.{◌≡◌}
 use lib.ListN.{length}
-use Rattle.expressions.proofs.OpeningLaws.{unsaid}
 use Rattle.tables.specs.Indexed.{IndexOf}
 use Rattle.index.proofs.FillingLaws.{Sized}
-use Rattle.node_pass.proofs.NodeLaws.{Nodes, nodes_begin, nodes_next, nodes_end}
+use Rattle.node_pass.proofs.NodeLaws.{Nodes}
 use Rattle.node_pass.proofs.nodes_pass.Given as goal
 
 abbrev pub invariant-loop-left : goal.invariant-loop-left

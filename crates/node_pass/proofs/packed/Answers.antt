@@ -1,4 +1,3 @@
-use borrow.Author.Rules.{rules}
 use Rattle.node_pass.proofs.InstanceLaws.{packed_none, packed_some}
 use Rattle.node_pass.proofs.packed.Goals as goal
 

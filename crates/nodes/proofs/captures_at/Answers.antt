@@ -1,7 +1,5 @@
 use Prim.Native.Nat.{◌*◌, ◌-◌, ◌≤◌}
 use native.Mathlib.Omega.{arith}
-use borrow.Author.Rules.{rules}
-use borrow.Author.Tests.{leb-true}
 use lib.ListN.{length}
 use Rattle.nodes.proofs.NodeLaws.{captures_there}
 use Rattle.nodes.proofs.captures_at.Goals as goal

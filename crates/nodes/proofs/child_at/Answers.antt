@@ -1,4 +1,3 @@
-use borrow.Author.Rules.{rules}
 use Rattle.fields.proofs.Steps.{steps}
 use Rattle.nodes.proofs.NodeLaws.{node_laws}
 use Rattle.nodes.proofs.child_at.Goals as goal

@@ -1,16 +1,11 @@
 -- The invariant: the marks tell the bits of the children so far, and those that are left decide.
-use Prim.Native.Nat.{ℕ, ◌+◌}
+use Prim.Native.Nat.{ℕ}
 use mathlib.Core.Bool.{true}
 use mathlib.Core.List.{[]}
-use mathlib.Core.Path.{sym, ◌∙◌, ap}
-use native.Mathlib.Omega.{arith}
-use borrow.Author.Rules.{rules}
 use Rattle.format.specs.Parsed.{row_at}
 use Rattle.format.specs.NodeLayout.{child_at}
 use Rattle.nodes.specs.Nodes.{child_bit}
-use Rattle.fields.specs.Views.{byte_parsed}
-use Rattle.fields.proofs.RowLaws.{RowIn, row_begin, row_next, row_last, row_refused}
-use Rattle.nodes.proofs.NodeLaws.{child_few}
+use Rattle.fields.proofs.RowLaws.{RowIn}
 use Rattle.nodes.proofs.children_at.Given as goal
 
 abbrev pub invariant-loop-left : goal.invariant-loop-left

@@ -1,8 +1,4 @@
-use mathlib.Core.List.{[]}
-use mathlib.Core.Path.{◌≡◌, refl, ap}
-use borrow.Author.Rules.{rules}
-use Rattle.format.specs.Parsed.{row_at}
-use Rattle.format.specs.NodeLayout.{capture_at}
+use mathlib.Core.Path.{refl, ap}
 use Rattle.fields.specs.Views.{forget}
 use Rattle.expressions.proofs.HeadLaws.{down_none, down_no, down_more}
 use Rattle.nodes.proofs.NodeLaws.{captures_blind}

@@ -1,12 +1,9 @@
 -- The invariant: those that are left decide.
 use mathlib.Core.List.{[]}
-use mathlib.Core.Path.{◌≡◌, refl, ap}
-use borrow.Author.Rules.{rules}
+use mathlib.Core.Path.{◌≡◌}
 use Rattle.format.specs.Parsed.{row_at}
 use Rattle.format.specs.NodeLayout.{capture_at}
 use Rattle.fields.specs.Views.{forget}
-use Rattle.expressions.proofs.HeadLaws.{down_none, down_no, down_more}
-use Rattle.nodes.proofs.NodeLaws.{captures_blind}
 use Rattle.nodes.proofs.each_capture_at.Given as goal
 
 abbrev pub invariant-loop-left : goal.invariant-loop-left

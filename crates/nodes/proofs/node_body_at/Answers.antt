@@ -1,5 +1,4 @@
 use mathlib.Core.Path.{refl}
-use borrow.Author.Rules.{rules}
 use Rattle.nodes.specs.Nodes.{node_body_at}
 use Rattle.fields.proofs.Steps.{forgot_then, forgot_stop}
 use Rattle.nodes.proofs.node_body_at.Goals as goal

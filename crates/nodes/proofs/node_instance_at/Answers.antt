@@ -1,5 +1,4 @@
 use mathlib.Core.Path.{refl}
-use borrow.Author.Rules.{rules}
 use Rattle.fields.proofs.Steps.{forgot_makes, forgot_makes_no}
 use Rattle.nodes.proofs.NodeLaws.{instance_told, instance_stop}
 use Rattle.nodes.proofs.node_instance_at.Goals as goal

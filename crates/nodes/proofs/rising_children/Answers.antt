@@ -1,7 +1,6 @@
 use native.Mathlib.Omega.{arith}
-use borrow.Author.Rules.{rules}
 use Rattle.expressions.proofs.OpeningLaws.{unsaid}
-use Rattle.nodes.proofs.NodeLaws.{RisingChildren, rising_first, rising_child, rising_all}
+use Rattle.nodes.proofs.NodeLaws.{rising_first, rising_child, rising_all}
 use Rattle.nodes.proofs.rising_children.Goals as goal
 
 pub returns-then-s-at : goal.returns-then-s-at

@@ -1,8 +1,5 @@
 -- The invariant: the children so far are read, their bits are below the bound, and the bytes of those that are left are there.
-use native.Mathlib.Omega.{arith}
-use borrow.Author.Rules.{rules}
-use Rattle.expressions.proofs.OpeningLaws.{unsaid}
-use Rattle.nodes.proofs.NodeLaws.{RisingChildren, rising_first, rising_child, rising_all}
+use Rattle.nodes.proofs.NodeLaws.{RisingChildren}
 use Rattle.nodes.proofs.rising_children.Given as goal
 
 abbrev pub invariant-loop-left : goal.invariant-loop-left

@@ -1,5 +1,4 @@
 use mathlib.Core.Path.{refl}
-use borrow.Author.Rules.{rules}
 use Rattle.limits.specs.Limits.{levels}
 use Rattle.fields.proofs.Steps.{steps, forgetting, byte_then', twice, forgot_makes}
 use Rattle.nodes.proofs.NodeLaws.{node_laws, rule_told}

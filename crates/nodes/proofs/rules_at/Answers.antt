@@ -1,14 +1,8 @@
-use Prim.Native.Nat.{ℕ, ◌+◌}
-use mathlib.Core.Bool.{true}
-use mathlib.Core.List.{[]}
+use Prim.Native.Nat.{◌+◌}
 use mathlib.Core.Path.{sym, ◌∙◌, ap}
 use native.Mathlib.Omega.{arith}
-use borrow.Author.Rules.{rules}
-use Rattle.format.specs.Parsed.{row_at}
-use Rattle.format.specs.NodeLayout.{rule_at}
-use Rattle.nodes.specs.Nodes.{rule_attention}
 use Rattle.fields.specs.Views.{byte_parsed}
-use Rattle.fields.proofs.RowLaws.{RowIn, row_begin, row_next, row_last, row_refused}
+use Rattle.fields.proofs.RowLaws.{row_begin, row_next, row_last, row_refused}
 use Rattle.nodes.proofs.NodeLaws.{rule_few}
 use Rattle.nodes.proofs.rules_at.Goals as goal
 

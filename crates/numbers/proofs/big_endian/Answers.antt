@@ -1,9 +1,6 @@
-use Prim.Native.Nat.{◌≤◌, ◌<◌, ◌-◌, ◌^◌}
-use mathlib.Core.Path.{◌≡◌, ◌∙◌}
+use mathlib.Core.Path.{◌∙◌}
 use native.Mathlib.Omega.{arith}
-use lib.ListN.{length, drop}
-use Rattle.numbers.specs.BigEndian.{big_endian}
-use Rattle.numbers.proofs.BigEndianLaws.{onward, onward_start, onward_more, onward_end, room, step_below}
+use Rattle.numbers.proofs.BigEndianLaws.{onward_start, onward_more, onward_end, room, step_below}
 use Rattle.numbers.proofs.big_endian.Goals as goal
 
 pub loop-i-init : goal.loop-i-init

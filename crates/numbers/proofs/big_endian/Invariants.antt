@@ -1,10 +1,9 @@
 -- The invariant: the value so far and the bytes that follow make the whole number.
 use Prim.Native.Nat.{◌≤◌, ◌<◌, ◌-◌, ◌^◌}
-use mathlib.Core.Path.{◌≡◌, ◌∙◌}
-use native.Mathlib.Omega.{arith}
+use mathlib.Core.Path.{◌≡◌}
 use lib.ListN.{length, drop}
 use Rattle.numbers.specs.BigEndian.{big_endian}
-use Rattle.numbers.proofs.BigEndianLaws.{onward, onward_start, onward_more, onward_end, room, step_below}
+use Rattle.numbers.proofs.BigEndianLaws.{onward}
 use Rattle.numbers.proofs.big_endian.Given as goal
 
 abbrev pub invariant-loop-i : goal.invariant-loop-i

@@ -1,7 +1,6 @@
 use mathlib.Core.Path.{refl}
 use native.Mathlib.Omega.{arith}
 use Rattle.numbers.proofs.FieldLaws.{number_cut, byte_whole}
-use borrow.Author.Rules.{rules}
 use Rattle.numbers.proofs.byte_at.Goals as goal
 
 pub returns-then-at-s : goal.returns-then-at-s

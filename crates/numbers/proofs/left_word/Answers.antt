@@ -1,6 +1,5 @@
 use Rattle.numbers.proofs.BitsLaws.{left_machine, left_none}
 use native.Mathlib.Omega.{arith}
-use borrow.Author.Rules.{rules}
 use Rattle.numbers.proofs.left_word.Goals as goal
 
 pub returns-then-k-lt64 : goal.returns-then-k-lt64

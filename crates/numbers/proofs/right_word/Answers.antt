@@ -1,6 +1,5 @@
 use Rattle.numbers.proofs.BitsLaws.{right_machine, right_none}
 use native.Mathlib.Omega.{arith}
-use borrow.Author.Rules.{rules}
 use Rattle.numbers.proofs.right_word.Goals as goal
 
 pub returns-then-k-lt64 : goal.returns-then-k-lt64

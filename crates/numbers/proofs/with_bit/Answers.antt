@@ -1,5 +1,4 @@
 use native.Mathlib.Omega.{arith}
-use borrow.Author.Rules.{rules}
 use Rattle.numbers.proofs.NextBitLaws.{with_machine, with_none}
 use Rattle.numbers.proofs.with_bit.Goals as goal
 

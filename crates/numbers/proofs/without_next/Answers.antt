@@ -1,6 +1,5 @@
 use native.Mathlib.Omega.{arith}
 use Rattle.numbers.proofs.NextBitLaws.{next_in, without_machine, without_none}
-use borrow.Author.Rules.{rules}
 use Rattle.numbers.proofs.without_next.Goals as goal
 
 pub overflow_shr-result : goal.overflow_shr-result

@@ -1,5 +1,5 @@
 use native.Mathlib.Omega.{arith}
-use Rattle.packing.proofs.NearLaws.{Gone, gone_none, gone_next, near_found, near_none}
+use Rattle.packing.proofs.NearLaws.{gone_none, gone_next, near_found, near_none}
 use Rattle.packing.proofs.look_back.Goals as goal
 
 pub loop-left-init : goal.loop-left-init

@@ -1,6 +1,5 @@
 -- The invariant: there is no register from the record `left` to the record n. The measure is how many records are left.
-use native.Mathlib.Omega.{arith}
-use Rattle.packing.proofs.NearLaws.{Gone, gone_none, gone_next, near_found, near_none}
+use Rattle.packing.proofs.NearLaws.{Gone}
 use Rattle.packing.proofs.look_back.Given as goal
 
 abbrev pub invariant-loop-left : goal.invariant-loop-left

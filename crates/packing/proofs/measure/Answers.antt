@@ -1,9 +1,5 @@
-use Prim.Native.Nat.{◌+◌, ◌*◌, ◌≤◌}
-use mathlib.Core.Path.{◌≡◌, refl}
+use mathlib.Core.Path.{refl}
 use native.Mathlib.Omega.{arith}
-use lib.ListN.{length}
-use Rattle.records.specs.Record.{records_from}
-use Rattle.packing.specs.Writing.{sizes}
 use Rattle.packing.proofs.MeasureLaws.{measure_next, measure_end, sizes_bound}
 use Rattle.packing.proofs.measure.Goals as goal
 

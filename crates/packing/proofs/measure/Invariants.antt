@@ -1,11 +1,9 @@
 -- The invariant: the size so far and that of the records that are left are the size of all. The measure is how many are left.
 use Prim.Native.Nat.{◌+◌, ◌*◌, ◌≤◌}
-use mathlib.Core.Path.{◌≡◌, refl}
-use native.Mathlib.Omega.{arith}
+use mathlib.Core.Path.{◌≡◌}
 use lib.ListN.{length}
 use Rattle.records.specs.Record.{records_from}
 use Rattle.packing.specs.Writing.{sizes}
-use Rattle.packing.proofs.MeasureLaws.{measure_next, measure_end, sizes_bound}
 use Rattle.packing.proofs.measure.Given as goal
 
 abbrev pub invariant-loop-left : goal.invariant-loop-left

@@ -1,5 +1,4 @@
 use Rattle.packing.proofs.OutputLaws.{file-size, no_room, has-room}
-use borrow.Author.Rules.{rules}
 use Rattle.packing.proofs.pack_file.Goals as goal
 
 pub returns-then-out-size : goal.returns-then-out-size

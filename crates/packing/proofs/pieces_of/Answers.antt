@@ -1,4 +1,3 @@
-use borrow.Author.Rules.{rules}
 use Rattle.packing.proofs.pieces_of.Goals as goal
 
 pub returns-in-Register : goal.returns-in-Register

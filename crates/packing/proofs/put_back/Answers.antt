@@ -1,8 +1,4 @@
-use Prim.Native.Nat.{◌-◌, ◌/◌, ◌^◌, ◌≤◌}
-use mathlib.Core.Path.{◌≡◌}
 use native.Mathlib.Omega.{arith}
-use Rattle.numbers.specs.BigEndian.{bytes_of}
-use Rattle.packing.specs.Writing.{Back}
 use Rattle.packing.proofs.BackLaws.{put_start, rest_start, put_room, put_within, put_next, rest_next, put_end, back_same}
 use Rattle.packing.proofs.put_back.Goals as goal
 

@@ -1,10 +1,8 @@
 -- The invariant: the last n - left bytes of the number have been written, and the rest of it is what they leave. The measure is how many bytes are left.
 use Prim.Native.Nat.{◌-◌, ◌/◌, ◌^◌, ◌≤◌}
 use mathlib.Core.Path.{◌≡◌}
-use native.Mathlib.Omega.{arith}
 use Rattle.numbers.specs.BigEndian.{bytes_of}
 use Rattle.packing.specs.Writing.{Back}
-use Rattle.packing.proofs.BackLaws.{put_start, rest_start, put_room, put_within, put_next, rest_next, put_end, back_same}
 use Rattle.packing.proofs.put_back.Given as goal
 
 abbrev pub invariant-loop-left : goal.invariant-loop-left

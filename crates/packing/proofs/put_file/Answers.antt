@@ -1,7 +1,6 @@
 use native.Mathlib.Omega.{arith}
 use Rattle.packing.proofs.FileLaws.{parts_within}
 use Rattle.packing.proofs.OutputLaws.{roots_room, nodes_room, registers_room, start_room, file_back}
-use borrow.Author.Rules.{rules}
 use Rattle.packing.proofs.put_file.Goals as goal
 
 pub overflow_add-p : goal.overflow_add-p

@@ -1,7 +1,6 @@
 use native.Mathlib.Omega.{arith}
 use Rattle.numbers.proofs.BigEndianLaws.{length_bytes}
 use Rattle.packing.proofs.BackLaws.{back_same, back_more}
-use borrow.Author.Rules.{rules}
 use Rattle.packing.proofs.put_head.Goals as goal
 
 pub put_back-requires : goal.put_back-requires

@@ -1,5 +1,4 @@
 use Rattle.packing.proofs.OwnLaws.{pieces_own, pieces_size}
-use borrow.Author.Rules.{rules}
 use Rattle.packing.proofs.put_own.Goals as goal
 
 pub put_pieces-requires : goal.put_pieces-requires

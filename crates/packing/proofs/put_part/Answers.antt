@@ -1,7 +1,7 @@
 use native.Mathlib.Omega.{arith}
 use Rattle.packing.proofs.BackLaws.{back_same}
 use Rattle.packing.proofs.OwnLaws.{few_weaker}
-use Rattle.packing.proofs.BackwardLaws.{Backward, backward_none, backward_known, backward_room, backward_within, backward_next, backward_all}
+use Rattle.packing.proofs.BackwardLaws.{backward_none, backward_known, backward_room, backward_within, backward_next, backward_all}
 use Rattle.packing.proofs.put_part.Goals as goal
 
 pub loop-left-init : goal.loop-left-init

@@ -1,8 +1,5 @@
 -- The invariant: the records behind the first `left` have been written. The measure is how many are left.
-use native.Mathlib.Omega.{arith}
-use Rattle.packing.proofs.BackLaws.{back_same}
-use Rattle.packing.proofs.OwnLaws.{few_weaker}
-use Rattle.packing.proofs.BackwardLaws.{Backward, backward_none, backward_known, backward_room, backward_within, backward_next, backward_all}
+use Rattle.packing.proofs.BackwardLaws.{Backward}
 use Rattle.packing.proofs.put_part.Given as goal
 
 abbrev pub invariant-loop-left : goal.invariant-loop-left

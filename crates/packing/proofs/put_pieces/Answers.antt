@@ -2,7 +2,6 @@ use native.Mathlib.Omega.{arith}
 use Rattle.numbers.proofs.BigEndianLaws.{length_bytes}
 use Rattle.packing.proofs.BackLaws.{back_same, back_more}
 use Rattle.packing.specs.Writing.{piece_bytes}
-use borrow.Author.Rules.{rules}
 use Rattle.packing.proofs.put_pieces.Goals as goal
 
 pub put_back-b-requires : goal.put_back-b-requires

@@ -1,5 +1,4 @@
 use Rattle.packing.proofs.OutputLaws.{head_room, registers_back}
-use borrow.Author.Rules.{rules}
 use Rattle.packing.proofs.put_registers.Goals as goal
 
 pub put_head-requires : goal.put_head-requires

@@ -4,7 +4,6 @@ use Rattle.packing.proofs.BackLaws.{back_same, back_more}
 use Rattle.numbers.specs.BigEndian.{bytes_of}
 use Rattle.format.specs.Keywords.{chipdata}
 use Rattle.format.specs.Encoding.{encode_start}
-use borrow.Author.Rules.{rules}
 use Rattle.packing.proofs.put_start.Goals as goal
 
 pub put_back-a-requires : goal.put_back-a-requires

@@ -1,9 +1,7 @@
-use Prim.Native.Nat.{◌+◌, ◌*◌, ◌≤◌}
-use mathlib.Core.Path.{◌≡◌, refl}
+use mathlib.Core.Path.{refl}
 use native.Mathlib.Omega.{arith}
-use lib.ListN.{length}
-use Rattle.records.specs.Record.{records_from, records_in, whole_records}
-use Rattle.packing.specs.Packing.{of_registers, of_roots, count_by}
+use Rattle.records.specs.Record.{records_in, whole_records}
+use Rattle.packing.specs.Packing.{of_registers, of_roots}
 use Rattle.packing.proofs.MeasureLaws.{count_next, in_whole, split_all}
 use Rattle.packing.proofs.split.Goals as goal
 

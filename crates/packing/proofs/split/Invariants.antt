@@ -1,11 +1,9 @@
 -- The invariant: what was counted and what is left to count are the counts of all. The measure is how many records are left.
 use Prim.Native.Nat.{◌+◌, ◌*◌, ◌≤◌}
-use mathlib.Core.Path.{◌≡◌, refl}
-use native.Mathlib.Omega.{arith}
+use mathlib.Core.Path.{◌≡◌}
 use lib.ListN.{length}
-use Rattle.records.specs.Record.{records_from, records_in, whole_records}
+use Rattle.records.specs.Record.{records_from, records_in}
 use Rattle.packing.specs.Packing.{of_registers, of_roots, count_by}
-use Rattle.packing.proofs.MeasureLaws.{count_next, in_whole, split_all}
 use Rattle.packing.proofs.split.Given as goal
 
 abbrev pub invariant-loop-left : goal.invariant-loop-left

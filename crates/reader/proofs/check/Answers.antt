@@ -1,5 +1,4 @@
 use mathlib.Core.Path.{◌∙◌, ap}
-use borrow.Author.Rules.{rules}
 use Rattle.reader.specs.Layout.{layout_parsed}
 use Rattle.reader.proofs.AddressLaws.{check_accepted, check_refused}
 use Rattle.reader.proofs.check.Goals as goal

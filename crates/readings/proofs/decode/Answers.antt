@@ -1,6 +1,4 @@
 use mathlib.Core.Path.{sym, ◌∙◌}
-use borrow.Author.Rules.{rules}
-use borrow.Author.Tests.{not-true, not-false}
 use Rattle.readings.proofs.RecordLaws.{file-size, no_words, no_read, no_fit, all_fit, lent_kept, lent_put}
 use Rattle.readings.proofs.decode.Goals as goal
 

@@ -1,4 +1,3 @@
-use borrow.Author.Rules.{rules}
 use Rattle.readings.proofs.RecordLaws.{size_odd, size_other, size_right}
 use Rattle.readings.proofs.file_fits.Goals as goal
 

@@ -1,10 +1,8 @@
 -- The invariant: with what the records to come give, the list is what it is to be.
 use Prim.Native.Nat.{◌-◌}
-use native.Mathlib.Omega.{arith}
-use borrow.Author.Rules.{rules}
 use lib.ListN.{length}
 use Rattle.readings.specs.ReadingsFile.{read_byte}
-use Rattle.readings.proofs.RecordLaws.{Putting, putting_begin, read_next, putting_end}
+use Rattle.readings.proofs.RecordLaws.{Putting}
 use Rattle.readings.proofs.put_read.Given as goal
 
 abbrev pub invariant-loop-i : goal.invariant-loop-i

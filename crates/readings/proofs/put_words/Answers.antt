@@ -1,9 +1,5 @@
-use Prim.Native.Nat.{◌-◌}
 use native.Mathlib.Omega.{arith}
-use borrow.Author.Rules.{rules}
-use lib.ListN.{length}
-use Rattle.readings.specs.ReadingsFile.{value_in}
-use Rattle.readings.proofs.RecordLaws.{Putting, putting_begin, words_next, putting_end}
+use Rattle.readings.proofs.RecordLaws.{putting_begin, words_next, putting_end}
 use Rattle.readings.proofs.put_words.Goals as goal
 
 pub loop-i-init : goal.loop-i-init

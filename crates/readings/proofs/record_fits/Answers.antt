@@ -1,4 +1,3 @@
-use borrow.Author.Rules.{rules}
 use Rattle.readings.proofs.RecordLaws.{other_key, other_byte, other_zeros, is_read, is_unread}
 use Rattle.readings.proofs.record_fits.Goals as goal
 

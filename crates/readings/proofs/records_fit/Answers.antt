@@ -1,9 +1,5 @@
-use Prim.Native.Nat.{◌-◌}
 use native.Mathlib.Omega.{arith}
-use borrow.Author.Rules.{rules}
-use borrow.Author.Tests.{not-true, not-false}
-use lib.ListN.{length}
-use Rattle.readings.proofs.RecordLaws.{Fitting, fitting_begin, fitting_next, fitting_stop, fitting_end}
+use Rattle.readings.proofs.RecordLaws.{fitting_begin, fitting_next, fitting_stop, fitting_end}
 use Rattle.readings.proofs.records_fit.Goals as goal
 
 pub loop-i-init : goal.loop-i-init

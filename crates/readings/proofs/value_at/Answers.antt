@@ -1,6 +1,5 @@
 use mathlib.Core.Path.{sym, ◌∙◌, ap}
 use native.Mathlib.Omega.{arith}
-use borrow.Author.Rules.{rules}
 use Rattle.numbers.specs.Field.{number_values}
 use Rattle.numbers.proofs.FieldLaws.{read_means, cut_means}
 use Rattle.readings.proofs.value_at.Goals as goal

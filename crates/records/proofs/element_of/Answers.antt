@@ -1,6 +1,5 @@
 use borrow.Author.Tests.{ne_eqb}
 use Rattle.records.specs.Grammar.{element_of}
-use borrow.Author.Rules.{rules}
 use Rattle.records.proofs.element_of.Goals as goal
 
 pub returns-in-1 : goal.returns-in-1

@@ -2,7 +2,6 @@ use lib.Dec.{lit≤}
 use borrow.Author.Tests.{ne_eqb}
 use Rattle.records.specs.Grammar.{expression_of}
 use Rattle.records.proofs.RankLaws.{rank_low, rank_high, not_low, not_high}
-use borrow.Author.Rules.{rules}
 use Rattle.records.proofs.expression_of.Goals as goal
 
 pub returns-in-1 : goal.returns-in-1

@@ -2,7 +2,6 @@ use mathlib.Core.Path.{sym, ◌∙◌, ap}
 use native.Mathlib.Omega.{arith}
 use Rattle.numbers.specs.Field.{number_values}
 use Rattle.numbers.proofs.FieldLaws.{read_means, cut_means}
-use borrow.Author.Rules.{rules}
 use Rattle.records.proofs.field_at.Goals as goal
 
 pub returns-in-Number : goal.returns-in-Number

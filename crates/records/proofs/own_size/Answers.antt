@@ -1,4 +1,3 @@
-use borrow.Author.Rules.{rules}
 use Rattle.records.proofs.own_size.Goals as goal
 
 pub returns-in-RegisterInstance : goal.returns-in-RegisterInstance

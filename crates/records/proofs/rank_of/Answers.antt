@@ -1,7 +1,6 @@
 use mathlib.Core.Path.{refl}
 use native.Mathlib.Omega.{arith}
 use Rattle.records.specs.Ranks.{Ranked}
-use borrow.Author.Rules.{rules}
 use Rattle.records.proofs.rank_of.Goals as goal
 
 pub returns-then-form-lt3 : goal.returns-then-form-lt3

@@ -1,5 +1,4 @@
 use mathlib.Core.Path.{sym, ◌∙◌, ap}
-use borrow.Author.Rules.{rules}
 use Rattle.fields.specs.Views.{byte_parsed, number_parsed}
 use Rattle.references.proofs.PartsLaws.{capture_judged, capture_there, capture_named}
 use Rattle.references.proofs.capture_fault.Goals as goal

@@ -1,16 +1,8 @@
-use Prim.Native.Nat.{◌+◌, ◌*◌, ◌-◌, ◌≤◌}
-use mathlib.Core.List.{[]}
 use mathlib.Core.Path.{sym, ◌∙◌, ap}
 use native.Mathlib.Omega.{arith}
-use borrow.Author.Rules.{rules}
-use lib.ListN.{length}
-use Rattle.format.specs.NodeLayout.{capture_at}
-use Rattle.format.specs.Parsed.{row_at}
-use Rattle.tables.specs.Indexed.{IndexOf}
 use Rattle.fields.specs.Views.{next_parsed}
-use Rattle.tables.specs.Faults.{capture_faults_in}
 use Rattle.references.proofs.CapturesLaws.{captures_none, capture_next}
-use Rattle.references.proofs.JudgingLaws.{Judging, judging_begin, judging_next, judging_refused, judging_end}
+use Rattle.references.proofs.JudgingLaws.{judging_begin, judging_next, judging_refused, judging_end}
 use Rattle.references.proofs.capture_faults.Goals as goal
 
 pub returns-then-s-at : goal.returns-then-s-at

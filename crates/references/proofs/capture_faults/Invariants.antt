@@ -1,17 +1,12 @@
 -- The invariant: those before have no fault, so that those to come decide; each has four bytes.
-use Prim.Native.Nat.{◌+◌, ◌*◌, ◌-◌, ◌≤◌}
+use Prim.Native.Nat.{◌+◌, ◌*◌, ◌≤◌}
 use mathlib.Core.List.{[]}
-use mathlib.Core.Path.{sym, ◌∙◌, ap}
-use native.Mathlib.Omega.{arith}
-use borrow.Author.Rules.{rules}
 use lib.ListN.{length}
 use Rattle.format.specs.NodeLayout.{capture_at}
 use Rattle.format.specs.Parsed.{row_at}
 use Rattle.tables.specs.Indexed.{IndexOf}
-use Rattle.fields.specs.Views.{next_parsed}
 use Rattle.tables.specs.Faults.{capture_faults_in}
-use Rattle.references.proofs.CapturesLaws.{captures_none, capture_next}
-use Rattle.references.proofs.JudgingLaws.{Judging, judging_begin, judging_next, judging_refused, judging_end}
+use Rattle.references.proofs.JudgingLaws.{Judging}
 use Rattle.references.proofs.capture_faults.Given as goal
 
 abbrev pub invariant-loop-left : goal.invariant-loop-left

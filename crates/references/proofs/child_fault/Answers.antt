@@ -1,5 +1,4 @@
 use mathlib.Core.Path.{sym, ◌∙◌, ap}
-use borrow.Author.Rules.{rules}
 use Rattle.format.proofs.ParsedLaws.{never}
 use Rattle.fields.specs.Views.{byte_parsed, number_parsed, next_parsed}
 use Rattle.index.proofs.PartsLaws.{child_fields, naming_all}

@@ -1,18 +1,9 @@
-use mathlib.Core.Bool.{true}
-use mathlib.Core.List.{[]}
-use mathlib.Core.Path.{◌≡◌, refl, sym, ◌∙◌, ap}
-use borrow.Author.Rules.{rules}
-use lib.ListN.{length}
-use Rattle.format.specs.NodeLayout.{child_at}
-use Rattle.format.specs.Parsed.{row_at}
+use mathlib.Core.Path.{refl, sym, ◌∙◌, ap}
 use Rattle.format.proofs.ParsedLaws.{never}
-use Rattle.tables.specs.Indexed.{IndexOf}
 use Rattle.fields.specs.Views.{next_parsed}
-use Rattle.links.specs.Links.{children_put}
-use Rattle.links.proofs.RowLaws.{Going, going_begin, going_next, going_end}
+use Rattle.links.proofs.RowLaws.{going_begin, going_next, going_end}
 use Rattle.links.proofs.ChildrenLaws.{linked_none}
-use Rattle.references.specs.FaultsIn.{child_faults_in}
-use Rattle.references.proofs.JudgingLaws.{Judging, judging_begin, judging_next, judging_refused, judging_end}
+use Rattle.references.proofs.JudgingLaws.{judging_begin, judging_next, judging_refused, judging_end}
 use Rattle.references.proofs.PartsLaws.{child_put}
 use Rattle.references.proofs.child_faults.Goals as goal
 

@@ -1,20 +1,15 @@
 -- The invariant: those before have no fault, so that those to come decide; and with the children to come, the table is what it is to be.
 use mathlib.Core.Bool.{true}
 use mathlib.Core.List.{[]}
-use mathlib.Core.Path.{◌≡◌, refl, sym, ◌∙◌, ap}
-use borrow.Author.Rules.{rules}
+use mathlib.Core.Path.{◌≡◌}
 use lib.ListN.{length}
 use Rattle.format.specs.NodeLayout.{child_at}
 use Rattle.format.specs.Parsed.{row_at}
-use Rattle.format.proofs.ParsedLaws.{never}
 use Rattle.tables.specs.Indexed.{IndexOf}
-use Rattle.fields.specs.Views.{next_parsed}
 use Rattle.links.specs.Links.{children_put}
-use Rattle.links.proofs.RowLaws.{Going, going_begin, going_next, going_end}
-use Rattle.links.proofs.ChildrenLaws.{linked_none}
+use Rattle.links.proofs.RowLaws.{Going}
 use Rattle.references.specs.FaultsIn.{child_faults_in}
-use Rattle.references.proofs.JudgingLaws.{Judging, judging_begin, judging_next, judging_refused, judging_end}
-use Rattle.references.proofs.PartsLaws.{child_put}
+use Rattle.references.proofs.JudgingLaws.{Judging}
 use Rattle.references.proofs.child_faults.Given as goal
 
 abbrev pub invariant-loop-left : goal.invariant-loop-left

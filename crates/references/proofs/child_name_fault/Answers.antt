@@ -1,5 +1,4 @@
 use mathlib.Core.Path.{ap}
-use borrow.Author.Rules.{rules}
 use Rattle.format.proofs.ParsedLaws.{never}
 use Rattle.fields.specs.Views.{next_parsed}
 use Rattle.references.proofs.PartsLaws.{name_there, name_absent}

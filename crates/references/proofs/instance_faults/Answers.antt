@@ -1,6 +1,5 @@
 use mathlib.Core.List.{[]}
 use mathlib.Core.Path.{sym, ◌∙◌, ap}
-use borrow.Author.Rules.{rules}
 use Rattle.format.proofs.ParsedLaws.{never}
 use Rattle.fields.specs.Views.{next_parsed}
 use Rattle.fields.proofs.SeenLaws.{tells_none}

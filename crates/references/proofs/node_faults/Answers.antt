@@ -1,12 +1,8 @@
-use Prim.Native.Nat.{◌≤◌, ◌-◌}
-use mathlib.Core.Path.{◌≡◌, refl, ◌∙◌, ap}
+use mathlib.Core.Path.{refl, ◌∙◌, ap}
 use native.Mathlib.Omega.{arith}
-use borrow.Author.Rules.{rules}
-use lib.ListN.{length}
 use Rattle.format.proofs.ParsedLaws.{never}
-use Rattle.tables.specs.Indexed.{IndexOf}
 use Rattle.fields.specs.Views.{next_parsed}
-use Rattle.references.proofs.ScanLaws.{Scan, scan_begin, scan_next, scan_refused, scan_end, Rows, rows_begin, rows_next, rows_full, rows_end}
+use Rattle.references.proofs.ScanLaws.{scan_begin, scan_next, scan_refused, scan_end, rows_begin, rows_next, rows_full, rows_end}
 use Rattle.references.proofs.node_faults.Goals as goal
 
 pub loop-i-init : goal.loop-i-init

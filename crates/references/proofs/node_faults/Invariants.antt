@@ -1,13 +1,9 @@
 -- The invariant: the node instances before i have no fault, so that those from i on decide; and with the children of those, the table is what it is to be.
 use Prim.Native.Nat.{◌≤◌, ◌-◌}
-use mathlib.Core.Path.{◌≡◌, refl, ◌∙◌, ap}
-use native.Mathlib.Omega.{arith}
-use borrow.Author.Rules.{rules}
+use mathlib.Core.Path.{◌≡◌}
 use lib.ListN.{length}
-use Rattle.format.proofs.ParsedLaws.{never}
 use Rattle.tables.specs.Indexed.{IndexOf}
-use Rattle.fields.specs.Views.{next_parsed}
-use Rattle.references.proofs.ScanLaws.{Scan, scan_begin, scan_next, scan_refused, scan_end, Rows, rows_begin, rows_next, rows_full, rows_end}
+use Rattle.references.proofs.ScanLaws.{Scan, Rows}
 use Rattle.references.proofs.node_faults.Given as goal
 
 abbrev pub invariant-loop-i : goal.invariant-loop-i

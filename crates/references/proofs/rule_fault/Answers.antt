@@ -1,5 +1,4 @@
 use mathlib.Core.Path.{sym, ◌∙◌, ap}
-use borrow.Author.Rules.{rules}
 use Rattle.fields.specs.Views.{byte_parsed}
 use Rattle.references.proofs.PartsLaws.{rule_judged, rule_there}
 use Rattle.references.proofs.rule_fault.Goals as goal

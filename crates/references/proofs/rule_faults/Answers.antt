@@ -1,13 +1,6 @@
-use mathlib.Core.Bool.{true}
-use mathlib.Core.List.{[]}
 use mathlib.Core.Path.{sym, ◌∙◌, ap}
-use borrow.Author.Rules.{rules}
-use Rattle.format.specs.NodeLayout.{rule_at}
-use Rattle.format.specs.Parsed.{row_at}
-use Rattle.tables.specs.Indexed.{IndexOf}
 use Rattle.fields.specs.Views.{next_parsed}
-use Rattle.tables.specs.Faults.{rule_faults_in}
-use Rattle.references.proofs.JudgingLaws.{Judging, judging_begin, judging_next, judging_refused, judging_end}
+use Rattle.references.proofs.JudgingLaws.{judging_begin, judging_next, judging_refused, judging_end}
 use Rattle.references.proofs.rule_faults.Goals as goal
 
 pub loop-left-init : goal.loop-left-init

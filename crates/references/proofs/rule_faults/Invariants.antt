@@ -1,14 +1,11 @@
 -- The invariant: those before have no fault, so that those to come decide.
 use mathlib.Core.Bool.{true}
 use mathlib.Core.List.{[]}
-use mathlib.Core.Path.{sym, ◌∙◌, ap}
-use borrow.Author.Rules.{rules}
 use Rattle.format.specs.NodeLayout.{rule_at}
 use Rattle.format.specs.Parsed.{row_at}
 use Rattle.tables.specs.Indexed.{IndexOf}
-use Rattle.fields.specs.Views.{next_parsed}
 use Rattle.tables.specs.Faults.{rule_faults_in}
-use Rattle.references.proofs.JudgingLaws.{Judging, judging_begin, judging_next, judging_refused, judging_end}
+use Rattle.references.proofs.JudgingLaws.{Judging}
 use Rattle.references.proofs.rule_faults.Given as goal
 
 abbrev pub invariant-loop-left : goal.invariant-loop-left

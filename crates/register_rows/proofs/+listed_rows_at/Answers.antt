@@ -1,8 +1,6 @@
-use Prim.Native.Nat.{ℕ, ◌<◌}
 use mathlib.Core.Path.{sym, ◌∙◌, ap}
 use mathlib.Core.List.{map}
 use native.Mathlib.Omega.{arith}
-use borrow.Author.Rules.{rules}
 use Rattle.limits.specs.Classes.{middle}
 use Rattle.format.specs.Lookup.{gathered, entries_of}
 use Rattle.format.specs.RegisterLayout.{register_total}

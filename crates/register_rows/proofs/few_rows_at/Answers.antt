@@ -1,6 +1,5 @@
 use mathlib.Core.Path.{refl}
 use native.Mathlib.Omega.{arith}
-use borrow.Author.Rules.{rules}
 use Rattle.register_rows.proofs.ListedLaws.{with_room, without_room}
 use Rattle.register_rows.proofs.few_rows_at.Goals as goal
 

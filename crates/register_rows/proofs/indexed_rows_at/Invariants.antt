@@ -2,23 +2,15 @@
 use Prim.Native.Nat.{◌+◌, ◌≤◌}
 use mathlib.Core.Bool.{true}
 use mathlib.Core.List.{[], map}
-use mathlib.Core.Path.{◌≡◌, refl, sym, ◌∙◌, ap}
-use native.Mathlib.Omega.{arith}
-use borrow.Author.Rules.{rules}
-use lib.ListN.{length, length-set}
-use lib.Seq.{length-take-le}
+use mathlib.Core.Path.{◌≡◌}
+use lib.ListN.{length}
 use Rattle.format.specs.Lookup.{entries_of}
 use Rattle.format.specs.Parsed.{row_at}
 use Rattle.format.specs.RegisterLayout.{register_total, register_at}
-use Rattle.format.proofs.RegistersAccepted.{registers_none, registers_more}
-use Rattle.fields.specs.Views.{element_parsed}
-use Rattle.fields.proofs.RowLaws.{Elements, elements_begin, elements_told, elements_next, elements_last, elements_refused}
+use Rattle.fields.proofs.RowLaws.{Elements}
 use Rattle.registers.specs.Registers.{register_id}
-use Rattle.registers.proofs.RegisterLaws.{register_size}
-use Rattle.index.specs.Rows.{filled, register_row, pair}
-use Rattle.index.proofs.Again.{unmade}
-use Rattle.index.proofs.FillingLaws.{Sized, Filling, filling_begin, filling_next, filling_end}
-use Rattle.register_rows.proofs.SectionLaws.{register_next, rows_of}
+use Rattle.index.specs.Rows.{register_row, pair}
+use Rattle.index.proofs.FillingLaws.{Sized, Filling}
 use Rattle.register_rows.proofs.indexed_rows_at.Given as goal
 
 abbrev pub invariant-loop-left : goal.invariant-loop-left

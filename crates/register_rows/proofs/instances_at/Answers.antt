@@ -1,4 +1,3 @@
-use borrow.Author.Rules.{rules}
 use Rattle.register_rows.proofs.RisingLaws.{instances_risen, instances_marked}
 use Rattle.register_rows.proofs.instances_at.Goals as goal
 

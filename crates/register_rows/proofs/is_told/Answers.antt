@@ -1,7 +1,6 @@
 use mathlib.Core.Bool.{not}
 use mathlib.Core.Path.{sym, ◌∙◌, ap}
 use lib.Dec.{eqb}
-use borrow.Author.Rules.{rules}
 use Rattle.fields.specs.Views.{count_parsed}
 use Rattle.register_rows.specs.Told.{is_told}
 use Rattle.register_rows.proofs.is_told.Goals as goal

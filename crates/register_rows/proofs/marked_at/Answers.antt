@@ -1,18 +1,13 @@
-use mathlib.Core.Bool.{true}
-use mathlib.Core.List.{[], ◌∷◌}
 use mathlib.Core.Path.{refl, sym, ◌∙◌, ap}
 use native.Mathlib.Omega.{arith}
-use borrow.Author.Rules.{rules}
-use Rattle.format.specs.Parsed.{row_at}
-use Rattle.format.specs.RegisterLayout.{register_instance_at}
 use Rattle.format.proofs.GatheredLaws.{gathered_each}
 use Rattle.fields.specs.Views.{byte_parsed}
-use Rattle.fields.proofs.RowLaws.{Row, row_begin, row_next, row_last, row_refused}
+use Rattle.fields.proofs.RowLaws.{row_begin, row_next, row_last, row_refused}
 use Rattle.registers.specs.Registers.{register_number}
 use Rattle.registers.proofs.RegisterLaws.{instance-room}
-use Rattle.index.specs.Rows.{filled, row_of, pair}
+use Rattle.index.specs.Rows.{filled}
 use Rattle.index.proofs.Again.{unmade}
-use Rattle.index.proofs.FillingLaws.{Sized, sized_put, Filling, filling_begin, filling_next, filling_end, instance_put}
+use Rattle.index.proofs.FillingLaws.{sized_put, filling_begin, filling_next, filling_end, instance_put}
 use Rattle.register_rows.proofs.RisingLaws.{register_instance_is}
 use Rattle.register_rows.proofs.marked_at.Goals as goal
 

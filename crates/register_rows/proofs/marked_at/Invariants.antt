@@ -1,20 +1,12 @@
 -- The invariant: the marks tell the numbers of the instances so far, and those that are left decide; with the rows of these the tables are what they are to be.
 use mathlib.Core.Bool.{true}
 use mathlib.Core.List.{[], ◌∷◌}
-use mathlib.Core.Path.{refl, sym, ◌∙◌, ap}
-use native.Mathlib.Omega.{arith}
-use borrow.Author.Rules.{rules}
 use Rattle.format.specs.Parsed.{row_at}
 use Rattle.format.specs.RegisterLayout.{register_instance_at}
-use Rattle.format.proofs.GatheredLaws.{gathered_each}
-use Rattle.fields.specs.Views.{byte_parsed}
-use Rattle.fields.proofs.RowLaws.{Row, row_begin, row_next, row_last, row_refused}
+use Rattle.fields.proofs.RowLaws.{Row}
 use Rattle.registers.specs.Registers.{register_number}
-use Rattle.registers.proofs.RegisterLaws.{instance-room}
-use Rattle.index.specs.Rows.{filled, row_of, pair}
-use Rattle.index.proofs.Again.{unmade}
-use Rattle.index.proofs.FillingLaws.{Sized, sized_put, Filling, filling_begin, filling_next, filling_end, instance_put}
-use Rattle.register_rows.proofs.RisingLaws.{register_instance_is}
+use Rattle.index.specs.Rows.{row_of, pair}
+use Rattle.index.proofs.FillingLaws.{Sized, Filling}
 use Rattle.register_rows.proofs.marked_at.Given as goal
 
 abbrev pub invariant-loop-left : goal.invariant-loop-left

@@ -1,4 +1,3 @@
-use borrow.Author.Rules.{rules}
 use Rattle.index.specs.Rows.{put_row}
 use Rattle.register_rows.proofs.put_pair.Goals as goal
 

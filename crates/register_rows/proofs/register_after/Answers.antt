@@ -1,5 +1,4 @@
 use mathlib.Core.Path.{refl, sym, ◌∙◌, ap}
-use borrow.Author.Rules.{rules}
 use Rattle.fields.proofs.Steps.{twice}
 use Rattle.fields.proofs.RowLaws.{row_counted, row_missed}
 use Rattle.registers.specs.Registers.{register_head_parsed, register_element, register_after}

@@ -1,8 +1,6 @@
 use native.Mathlib.Omega.{arith}
-use borrow.Author.Rules.{rules}
-use Rattle.index.specs.Rows.{pair}
 use Rattle.index.proofs.FillingLaws.{covered_none}
-use Rattle.register_rows.proofs.RisingLaws.{Risen, risen_begin, risen_there, risen_next, risen_covered, risen_end, sizes_small}
+use Rattle.register_rows.proofs.RisingLaws.{risen_begin, risen_there, risen_next, risen_covered, risen_end, sizes_small}
 use Rattle.register_rows.proofs.rising_at.Goals as goal
 
 pub returns-then-s-at : goal.returns-then-s-at

@@ -1,9 +1,6 @@
 -- The invariant: the numbers so far rise, and those that are left decide; with the rows of these the tables are what they are to be.
-use native.Mathlib.Omega.{arith}
-use borrow.Author.Rules.{rules}
 use Rattle.index.specs.Rows.{pair}
-use Rattle.index.proofs.FillingLaws.{covered_none}
-use Rattle.register_rows.proofs.RisingLaws.{Risen, risen_begin, risen_there, risen_next, risen_covered, risen_end, sizes_small}
+use Rattle.register_rows.proofs.RisingLaws.{Risen}
 use Rattle.register_rows.proofs.rising_at.Given as goal
 
 abbrev pub invariant-loop-left : goal.invariant-loop-left

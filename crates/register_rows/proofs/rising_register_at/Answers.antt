@@ -1,6 +1,5 @@
 use mathlib.Core.List.{map}
 use mathlib.Core.Path.{sym, ◌∙◌, ap}
-use borrow.Author.Rules.{rules}
 use Rattle.fields.specs.Views.{element_parsed}
 use Rattle.fields.proofs.SeenLaws.{id_rose, id_new, id_cut}
 use Rattle.registers.specs.Registers.{register_id, register_element}

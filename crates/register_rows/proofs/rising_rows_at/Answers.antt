@@ -1,15 +1,9 @@
-use mathlib.Core.Bool.{true}
-use mathlib.Core.List.{[], map}
 use mathlib.Core.Path.{refl, sym, ◌∙◌, ap}
 use native.Mathlib.Omega.{arith}
-use borrow.Author.Rules.{rules}
-use Rattle.format.specs.Lookup.{entries_of}
-use Rattle.format.specs.Parsed.{row_at}
-use Rattle.format.specs.RegisterLayout.{register_total, register_at}
-use Rattle.registers.specs.Registers.{register_id}
-use Rattle.index.specs.Rows.{filled, register_row, pair}
+use Rattle.format.specs.RegisterLayout.{register_total}
+use Rattle.index.specs.Rows.{filled}
 use Rattle.index.proofs.Again.{unmade}
-use Rattle.index.proofs.RisingLaws.{RisingRows, rows_begin, rows_room, rows_next, rows_last, rows_filled, rows_refused, rows_falls}
+use Rattle.index.proofs.RisingLaws.{rows_begin, rows_room, rows_next, rows_last, rows_filled, rows_refused, rows_falls}
 use Rattle.register_rows.proofs.SectionLaws.{registers_reader, rows_of}
 use Rattle.register_rows.proofs.rising_rows_at.Goals as goal
 

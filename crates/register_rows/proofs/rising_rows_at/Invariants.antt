@@ -1,17 +1,12 @@
 -- The invariant: the IDs so far rise, and the registers that are left decide; with the rows of these the tables are what they are to be.
 use mathlib.Core.Bool.{true}
 use mathlib.Core.List.{[], map}
-use mathlib.Core.Path.{refl, sym, ◌∙◌, ap}
-use native.Mathlib.Omega.{arith}
-use borrow.Author.Rules.{rules}
 use Rattle.format.specs.Lookup.{entries_of}
 use Rattle.format.specs.Parsed.{row_at}
 use Rattle.format.specs.RegisterLayout.{register_total, register_at}
 use Rattle.registers.specs.Registers.{register_id}
-use Rattle.index.specs.Rows.{filled, register_row, pair}
-use Rattle.index.proofs.Again.{unmade}
-use Rattle.index.proofs.RisingLaws.{RisingRows, rows_begin, rows_room, rows_next, rows_last, rows_filled, rows_refused, rows_falls}
-use Rattle.register_rows.proofs.SectionLaws.{registers_reader, rows_of}
+use Rattle.index.specs.Rows.{register_row, pair}
+use Rattle.index.proofs.RisingLaws.{RisingRows}
 use Rattle.register_rows.proofs.rising_rows_at.Given as goal
 
 abbrev pub invariant-loop-left : goal.invariant-loop-left

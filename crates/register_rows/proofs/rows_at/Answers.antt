@@ -1,5 +1,4 @@
 use mathlib.Core.Path.{◌∙◌}
-use borrow.Author.Rules.{rules}
 use Rattle.index.proofs.RisingLaws.{count_read, count_rose, count_fell}
 use Rattle.register_rows.proofs.rows_at.Goals as goal
 

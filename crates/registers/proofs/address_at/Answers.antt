@@ -1,4 +1,3 @@
-use borrow.Author.Rules.{rules}
 use Rattle.registers.proofs.RegisterLaws.{register-laws}
 use Rattle.registers.proofs.address_at.Goals as goal
 

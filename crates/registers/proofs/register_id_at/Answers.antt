@@ -1,4 +1,3 @@
-use borrow.Author.Rules.{rules}
 use Rattle.fields.proofs.Steps.{steps}
 use Rattle.fields.proofs.SeenLaws.{seen-laws}
 use Rattle.registers.proofs.register_id_at.Goals as goal

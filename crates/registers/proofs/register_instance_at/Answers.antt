@@ -1,4 +1,3 @@
-use borrow.Author.Rules.{rules}
 use Rattle.fields.proofs.Steps.{steps}
 use Rattle.registers.proofs.RegisterLaws.{register-laws}
 use Rattle.registers.proofs.register_instance_at.Goals as goal

@@ -1,5 +1,4 @@
 use mathlib.Core.Path.{refl}
-use borrow.Author.Rules.{rules}
 use Rattle.tables.specs.Tables.{key_of}
 use Rattle.tables.proofs.key.Goals as goal
 

@@ -1,4 +1,3 @@
-use borrow.Author.Rules.{rules}
 use Rattle.tables.specs.Faults.{position_in}
 use Rattle.tables.proofs.name_position.Goals as goal
 

@@ -1,11 +1,7 @@
 -- No number passed is the one that is sought.
-use mathlib.Core.Path.{◌≡◌, ◌∙◌}
+use mathlib.Core.Path.{◌≡◌}
 use Prim.Native.Nat.{ℕ, ◌≤◌, ◌<◌, ◌-◌}
-use native.Mathlib.Omega.{arith}
-use borrow.Author.Count.{below_more}
-use borrow.Author.Rules.{rules}
 use lib.ListN.{length, get_or}
-use Rattle.tables.proofs.TablesLaws.{position_here, position_none}
 use Rattle.tables.proofs.position_of.Given as goal
 
 abbrev pub invariant-loop-i : goal.invariant-loop-i

@@ -1,4 +1,3 @@
-use borrow.Author.Rules.{rules}
 use Rattle.tables.proofs.TablesLaws.{set_beyond}
 use Rattle.tables.proofs.put.Goals as goal
 

@@ -1,4 +1,3 @@
-use borrow.Author.Rules.{rules}
 use borrow.Author.Tests.{eq-eqb, ne_eqb}
 use Rattle.format.specs.Fields.{address_size}
 use Rattle.unpacking.proofs.address_at.Goals as goal

@@ -1,5 +1,4 @@
 use mathlib.Core.Path.{sym, ◌∙◌, ap}
-use borrow.Author.Rules.{rules}
 use Rattle.numbers.specs.Field.{byte_values}
 use Rattle.unpacking.specs.Unpacking.{value_at}
 use Rattle.unpacking.proofs.byte_at.Goals as goal

@@ -1,6 +1,5 @@
 use mathlib.Core.Path.{ap}
 use native.Mathlib.Omega.{arith}
-use borrow.Author.Rules.{rules}
 use Rattle.unpacking.proofs.OutputLaws.{passed_count, passed_end, sections_count}
 use Rattle.unpacking.proofs.count_all.Goals as goal
 

@@ -1,8 +1,7 @@
 use mathlib.Core.Path.{sym, ◌∙◌}
 use borrow.Author.Rules.{rules}
-use borrow.Author.Tests.{not-true, not-false}
 use native.Mathlib.Omega.{arith}
-use Rattle.unpacking.proofs.LoopLaws.{address_size-le, own_size-le, Going, going_start, going_next, going_stop, going_end}
+use Rattle.unpacking.proofs.LoopLaws.{address_size-le, own_size-le, going_start, going_next, going_stop, going_end}
 use Rattle.unpacking.proofs.count_run.Goals as goal
 
 pub loop-turns-init : goal.loop-turns-init

@@ -1,9 +1,5 @@
 -- The invariant: what was passed and what is to come make the whole run; place and owed grow by a bounded amount a turn.
-use mathlib.Core.Path.{sym, ◌∙◌}
-use borrow.Author.Rules.{rules}
-use borrow.Author.Tests.{not-true, not-false}
-use native.Mathlib.Omega.{arith}
-use Rattle.unpacking.proofs.LoopLaws.{address_size-le, own_size-le, Going, going_start, going_next, going_stop, going_end}
+use Rattle.unpacking.proofs.LoopLaws.{Going}
 use Rattle.unpacking.proofs.count_run.Given as goal
 
 abbrev pub invariant-loop-turns : goal.invariant-loop-turns

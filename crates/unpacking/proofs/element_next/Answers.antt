@@ -1,4 +1,3 @@
-use borrow.Author.Rules.{rules}
 use borrow.Author.Tests.{lt-ltb, le-ltb}
 use Rattle.unpacking.specs.Unpacking.{element_next}
 use Rattle.unpacking.proofs.element_next.Goals as goal

@@ -1,4 +1,3 @@
-use borrow.Author.Rules.{rules}
 use Rattle.unpacking.proofs.owing.Goals as goal
 
 pub returns : goal.returns

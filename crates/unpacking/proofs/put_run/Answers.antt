@@ -1,9 +1,7 @@
-use mathlib.Core.Path.{◌≡◌, refl, sym, ◌∙◌}
+use mathlib.Core.Path.{refl, sym, ◌∙◌}
 use borrow.Author.Rules.{rules}
-use borrow.Author.Tests.{not-true, not-false}
 use native.Mathlib.Omega.{arith}
-use lib.ListN.{length}
-use Rattle.unpacking.proofs.LoopLaws.{address_size-le, own_size-le, Going, going_start, going_next, going_stop, going_end, Putting, putting_start, putting_next, putting_stop, putting_end}
+use Rattle.unpacking.proofs.LoopLaws.{address_size-le, own_size-le, going_start, going_next, going_stop, going_end, putting_start, putting_next, putting_stop, putting_end}
 use Rattle.unpacking.proofs.put_run.Goals as goal
 
 pub loop-turns-init : goal.loop-turns-init

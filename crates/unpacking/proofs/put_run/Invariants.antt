@@ -1,10 +1,7 @@
 -- The invariant: that of counting, and what is still to be put makes the output what it is to be.
-use mathlib.Core.Path.{◌≡◌, refl, sym, ◌∙◌}
-use borrow.Author.Rules.{rules}
-use borrow.Author.Tests.{not-true, not-false}
-use native.Mathlib.Omega.{arith}
+use mathlib.Core.Path.{◌≡◌}
 use lib.ListN.{length}
-use Rattle.unpacking.proofs.LoopLaws.{address_size-le, own_size-le, Going, going_start, going_next, going_stop, going_end, Putting, putting_start, putting_next, putting_stop, putting_end}
+use Rattle.unpacking.proofs.LoopLaws.{Going, Putting}
 use Rattle.unpacking.proofs.put_run.Given as goal
 
 abbrev pub invariant-loop-turns : goal.invariant-loop-turns

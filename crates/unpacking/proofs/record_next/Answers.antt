@@ -1,4 +1,3 @@
-use borrow.Author.Rules.{rules}
 use Rattle.unpacking.proofs.record_next.Goals as goal
 
 pub returns-in-Register : goal.returns-in-Register

@@ -1,4 +1,3 @@
-use borrow.Author.Rules.{rules}
 use Rattle.unpacking.proofs.registers_left.Goals as goal
 
 pub returns : goal.returns

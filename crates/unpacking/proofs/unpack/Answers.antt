@@ -1,5 +1,4 @@
 use native.Mathlib.Omega.{arith}
-use borrow.Author.Rules.{rules}
 use Rattle.unpacking.proofs.OutputLaws.{unpacked-le, needs_none, needs_all, keeps_none, keeps_short, puts_all}
 use Rattle.unpacking.proofs.unpack.Goals as goal
 

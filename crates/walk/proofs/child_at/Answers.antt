@@ -1,4 +1,3 @@
-use borrow.Author.Rules.{rules}
 use native.Mathlib.Omega.{arith}
 use Rattle.walk.proofs.Tables.{child_beyond, child_none, child_there}
 use Rattle.walk.proofs.child_at.Goals as goal

@@ -1,9 +1,7 @@
-use mathlib.Core.Path.{◌≡◌}
-use Prim.Native.Nat.{ℕ, ◌≤◌, ◌<◌, ◌-◌}
+use Prim.Native.Nat.{◌≤◌}
 use native.Mathlib.Omega.{arith}
 use borrow.Author.Count.{below_more}
 use borrow.Author.Rules.{rules}
-use lib.ListN.{length, get_or}
 use Rattle.numbers.proofs.NextBitLaws.{next_law}
 use Rattle.walk.proofs.WordsLaws.{first_word, first_nowhere}
 use Rattle.walk.proofs.first_waiting.Goals as goal

@@ -1,12 +1,7 @@
 -- The words passed are 0.
 use mathlib.Core.Path.{◌≡◌}
 use Prim.Native.Nat.{ℕ, ◌≤◌, ◌<◌, ◌-◌}
-use native.Mathlib.Omega.{arith}
-use borrow.Author.Count.{below_more}
-use borrow.Author.Rules.{rules}
 use lib.ListN.{length, get_or}
-use Rattle.numbers.proofs.NextBitLaws.{next_law}
-use Rattle.walk.proofs.WordsLaws.{first_word, first_nowhere}
 use Rattle.walk.proofs.first_waiting.Given as goal
 
 abbrev pub invariant-loop-j : goal.invariant-loop-j

@@ -1,10 +1,5 @@
-use Prim.Native.Nat.{◌-◌}
-use mathlib.Core.Path.{◌≡◌}
-use borrow.Author.Rules.{rules}
 use native.Mathlib.Omega.{arith}
-use Rattle.walk.specs.TableGraph.{table_graph}
-use Rattle.walk.specs.Marks.{waiting_words, step_walk}
-use Rattle.walk.proofs.WalkLaws.{Walking}
+use Rattle.walk.specs.Marks.{step_walk}
 use Rattle.walk.proofs.Step.{state_marks, state_words}
 use Rattle.walk.proofs.RunLaws.{run_counted, run_nowhere, run_start, run_ready, run_step, run_end}
 use Rattle.walk.proofs.run.Goals as goal
@@ -30,7 +25,6 @@ loop-w-preserved c =
       run_step _ _ _ _ c.size-n.ensures c.if-n-root.false c.loop-w.invariant.0 (c.waiting.ensures c.loop-w.invariant.1) c.loop-w-test.true (state_marks s),
       state_words _ s,
     )
-
 
 pub returns-then-n-root : goal.returns-then-n-root
 returns-then-n-root c =

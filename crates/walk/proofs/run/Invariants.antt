@@ -1,12 +1,8 @@
 use Prim.Native.Nat.{◌-◌}
 use mathlib.Core.Path.{◌≡◌}
-use borrow.Author.Rules.{rules}
-use native.Mathlib.Omega.{arith}
 use Rattle.walk.specs.TableGraph.{table_graph}
-use Rattle.walk.specs.Marks.{waiting_words, step_walk}
+use Rattle.walk.specs.Marks.{waiting_words}
 use Rattle.walk.proofs.WalkLaws.{Walking}
-use Rattle.walk.proofs.Step.{state_marks, state_words}
-use Rattle.walk.proofs.RunLaws.{run_counted, run_nowhere, run_start, run_ready, run_step, run_end}
 use Rattle.walk.proofs.run.Given as goal
 
 abbrev pub invariant-loop-w : goal.invariant-loop-w

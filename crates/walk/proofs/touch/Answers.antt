@@ -1,4 +1,3 @@
-use borrow.Author.Rules.{rules}
 use native.Mathlib.Omega.{arith}
 use Rattle.walk.proofs.TouchLaws.{outside, known, fresh}
 use Rattle.walk.proofs.WordsLaws.{words_touched}

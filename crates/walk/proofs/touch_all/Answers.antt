@@ -1,12 +1,8 @@
-use mathlib.Core.Path.{◌≡◌}
 use native.Mathlib.Omega.{arith}
 use borrow.Author.Rules.{rules}
-use lib.Count.{ones}
-use lib.ListN.{length}
 use Rattle.numbers.proofs.TakenLaws.{taken_in, taken_less}
-use Rattle.walk.specs.Marks.{waiting_words}
 use Rattle.walk.proofs.Tables.{size_few}
-use Rattle.walk.proofs.TouchLaws.{Touched, touched_none, touched_next, touched_all}
+use Rattle.walk.proofs.TouchLaws.{touched_none, touched_next, touched_all}
 use Rattle.walk.proofs.touch_all.Goals as goal
 
 pub offset_bounds-active-k : goal.offset_bounds-active-k

@@ -1,13 +1,9 @@
 -- The invariant: the children of the bits that were taken have been looked at. The measure is how many are left: one pass for each active bit.
 use mathlib.Core.Path.{◌≡◌}
-use native.Mathlib.Omega.{arith}
-use borrow.Author.Rules.{rules}
 use lib.Count.{ones}
 use lib.ListN.{length}
-use Rattle.numbers.proofs.TakenLaws.{taken_in, taken_less}
 use Rattle.walk.specs.Marks.{waiting_words}
-use Rattle.walk.proofs.Tables.{size_few}
-use Rattle.walk.proofs.TouchLaws.{Touched, touched_none, touched_next, touched_all}
+use Rattle.walk.proofs.TouchLaws.{Touched}
 use Rattle.walk.proofs.touch_all.Given as goal
 
 abbrev pub invariant-loop-rest : goal.invariant-loop-rest

@@ -1,5 +1,4 @@
 use native.Mathlib.Omega.{arith}
-use borrow.Author.Rules.{rules}
 use Rattle.tables.proofs.IndexedLaws.{indexed_none}
 use Rattle.fields.proofs.seen.enter_ids.Goals as goal
 

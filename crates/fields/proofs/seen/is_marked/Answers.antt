@@ -1,5 +1,4 @@
 use mathlib.Core.Path.{refl}
-use borrow.Author.Rules.{rules}
 use Rattle.fields.specs.Seen.{unmarked}
 use Rattle.fields.proofs.SeenLaws.{unmarked_beyond}
 use Rattle.fields.proofs.seen.is_marked.Goals as goal

@@ -1,5 +1,4 @@
 use native.Mathlib.Omega.{arith}
-use borrow.Author.Rules.{rules}
 use Rattle.tables.proofs.IndexedLaws.{indexed_fewer}
 use Rattle.fields.proofs.SeenLaws.{new_above, new_found}
 use Rattle.fields.proofs.seen.is_new.Goals as goal

@@ -1,4 +1,3 @@
-use borrow.Author.Rules.{rules}
 use Rattle.fields.proofs.Steps.{steps}
 use Rattle.fields.proofs.SeenLaws.{seen-laws}
 use Rattle.fields.proofs.seen.new_attention_at.Goals as goal

@@ -1,5 +1,4 @@
 use mathlib.Core.Path.{sym, ◌∙◌, ap}
-use borrow.Author.Rules.{rules}
 use Rattle.format.proofs.Spelling.{field_out}
 use Rattle.fields.specs.Views.{number_parsed}
 use Rattle.fields.proofs.SeenLaws.{id_done, id_refused}

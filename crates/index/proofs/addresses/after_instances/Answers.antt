@@ -1,5 +1,4 @@
 use mathlib.Core.Path.{refl}
-use borrow.Author.Rules.{rules}
 use Rattle.index.proofs.SizeLaws.{size_four, size_eight, instances_after}
 use Rattle.index.proofs.addresses.after_instances.Goals as goal
 

@@ -1,5 +1,4 @@
 use mathlib.Core.Path.{sym, ◌∙◌, ap}
-use borrow.Author.Rules.{rules}
 use Rattle.fields.specs.Views.{number_parsed}
 use Rattle.registers.specs.Registers.{register_head_parsed}
 use Rattle.index.proofs.Again.{head_is, register_head_rest, register_head_there, not_refused}

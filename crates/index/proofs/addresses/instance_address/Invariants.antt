@@ -2,14 +2,11 @@
 use Prim.Native.Nat.{ℕ}
 use mathlib.Core.Bool.{true}
 use mathlib.Core.List.{[]}
-use mathlib.Core.Path.{◌∙◌}
-use borrow.Author.Rules.{rules}
 use Rattle.format.specs.Lookup.{entries_of}
 use Rattle.format.specs.Parsed.{row_at}
 use Rattle.format.specs.RegisterLayout.{register_instance_at}
 use Rattle.index.specs.Sought.{address_among, register_of}
-use Rattle.index.proofs.SeekingLaws.{Seeking, seeking_begin, seeking_next, seeking_found, seeking_end}
-use Rattle.index.proofs.SoughtLaws.{instance_none, instance_found, instance_passed}
+use Rattle.index.proofs.SeekingLaws.{Seeking}
 use Rattle.index.proofs.addresses.instance_address.Given as goal
 
 abbrev pub invariant-loop-left : goal.invariant-loop-left

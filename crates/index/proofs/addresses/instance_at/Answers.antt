@@ -1,5 +1,4 @@
 use mathlib.Core.Path.{sym, ◌∙◌, ap}
-use borrow.Author.Rules.{rules}
 use Rattle.fields.specs.Views.{byte_parsed, number_parsed}
 use Rattle.index.proofs.Again.{register_instance_again, register_instance_whole, register_instance_there}
 use Rattle.index.proofs.addresses.instance_at.Goals as goal

@@ -1,5 +1,4 @@
 use mathlib.Core.Path.{◌∙◌}
-use borrow.Author.Rules.{rules}
 use Rattle.index.proofs.SoughtLaws.{register_same, register_other}
 use Rattle.index.proofs.addresses.register_address.Goals as goal
 

@@ -1,14 +1,7 @@
-use Prim.Native.Nat.{ℕ}
-use mathlib.Core.Bool.{true}
-use mathlib.Core.List.{[]}
 use mathlib.Core.Path.{refl, sym, ◌∙◌, ap}
-use borrow.Author.Rules.{rules}
-use Rattle.format.specs.Lookup.{gathered, entries_of}
-use Rattle.format.specs.Parsed.{row_at}
+use Rattle.format.specs.Lookup.{gathered}
 use Rattle.format.specs.Refusals.{address_values}
-use Rattle.format.specs.RegisterLayout.{register_at}
-use Rattle.index.specs.Sought.{address_among}
-use Rattle.index.proofs.SeekingLaws.{Seeking, seeking_begin, seeking_next, seeking_found, seeking_end}
+use Rattle.index.proofs.SeekingLaws.{seeking_begin, seeking_next, seeking_found, seeking_end}
 use Rattle.index.proofs.SoughtLaws.{among_none}
 use Rattle.index.proofs.WalkLaws.{register_found, register_passed}
 use Rattle.index.proofs.addresses.row_address.Goals as goal

@@ -1,18 +1,13 @@
-use mathlib.Core.Bool.{true}
-use mathlib.Core.List.{[], ◌∷◌}
 use mathlib.Core.Path.{refl, sym, ◌∙◌, ap}
 use native.Mathlib.Omega.{arith}
-use borrow.Author.Rules.{rules}
-use Rattle.format.specs.Parsed.{row_at}
-use Rattle.format.specs.NodeLayout.{node_instance_at}
 use Rattle.format.proofs.GatheredLaws.{gathered_each}
 use Rattle.fields.specs.Views.{byte_parsed}
-use Rattle.fields.proofs.RowLaws.{Row, row_begin, row_next, row_last, row_refused}
+use Rattle.fields.proofs.RowLaws.{row_begin, row_next, row_last, row_refused}
 use Rattle.nodes.specs.Nodes.{node_number}
 use Rattle.nodes.proofs.NodeLaws.{instance-room}
-use Rattle.index.specs.Rows.{filled, row_of}
+use Rattle.index.specs.Rows.{filled}
 use Rattle.index.proofs.Again.{unmade, node_instance_is}
-use Rattle.index.proofs.FillingLaws.{Sized, sized_put, Filling, filling_begin, filling_next, filling_end, instance_put}
+use Rattle.index.proofs.FillingLaws.{sized_put, filling_begin, filling_next, filling_end, instance_put}
 use Rattle.index.proofs.node_rows.instances_at.Goals as goal
 
 pub loop-left-init : goal.loop-left-init

@@ -1,19 +1,12 @@
 -- The invariant: the marks tell the numbers of the instances so far, and those that are left decide; with the rows of these the tables are what they are to be.
 use mathlib.Core.Bool.{true}
 use mathlib.Core.List.{[], ◌∷◌}
-use mathlib.Core.Path.{refl, sym, ◌∙◌, ap}
-use native.Mathlib.Omega.{arith}
-use borrow.Author.Rules.{rules}
 use Rattle.format.specs.Parsed.{row_at}
 use Rattle.format.specs.NodeLayout.{node_instance_at}
-use Rattle.format.proofs.GatheredLaws.{gathered_each}
-use Rattle.fields.specs.Views.{byte_parsed}
-use Rattle.fields.proofs.RowLaws.{Row, row_begin, row_next, row_last, row_refused}
+use Rattle.fields.proofs.RowLaws.{Row}
 use Rattle.nodes.specs.Nodes.{node_number}
-use Rattle.nodes.proofs.NodeLaws.{instance-room}
-use Rattle.index.specs.Rows.{filled, row_of}
-use Rattle.index.proofs.Again.{unmade, node_instance_is}
-use Rattle.index.proofs.FillingLaws.{Sized, sized_put, Filling, filling_begin, filling_next, filling_end, instance_put}
+use Rattle.index.specs.Rows.{row_of}
+use Rattle.index.proofs.FillingLaws.{Sized, Filling}
 use Rattle.index.proofs.node_rows.instances_at.Given as goal
 
 abbrev pub invariant-loop-left : goal.invariant-loop-left

@@ -1,5 +1,4 @@
 use mathlib.Core.Path.{refl, sym, ◌∙◌, ap}
-use borrow.Author.Rules.{rules}
 use Rattle.fields.proofs.Steps.{twice}
 use Rattle.fields.proofs.RowLaws.{row_counted, row_missed}
 use Rattle.nodes.specs.Nodes.{node_head_parsed, node_element}

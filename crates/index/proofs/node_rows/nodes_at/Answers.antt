@@ -1,6 +1,5 @@
 use Prim.Native.Nat.{◌≤◌}
 use mathlib.Core.Path.{sym, subst}
-use borrow.Author.Rules.{rules}
 use Rattle.limits.specs.Limits.{library_limits}
 use Rattle.limits.proofs.LimitsLaws.{nodes_within}
 use Rattle.index.proofs.node_rows.nodes_at.Goals as goal

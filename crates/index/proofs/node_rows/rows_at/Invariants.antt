@@ -1,27 +1,18 @@
 -- The invariant: `ids`, `index`, `largest` and `total` are those of the nodes so far, and those that are left decide; with the rows of these the tables are what they are to be.
-use Prim.Native.Nat.{ℕ, ◌≤◌}
+use Prim.Native.Nat.{◌≤◌}
 use mathlib.Core.Bool.{true}
 use mathlib.Core.List.{[], map}
-use mathlib.Core.Path.{◌≡◌, refl, sym, ◌∙◌, ap}
-use native.Mathlib.Omega.{arith}
-use borrow.Author.Rules.{rules}
-use lib.ListN.{length, length-set, length-replicate}
-use lib.Seq.{length-take-le}
+use mathlib.Core.Path.{◌≡◌}
+use lib.ListN.{length}
 use Rattle.tables.specs.Indexed.{places_for}
 use Rattle.limits.specs.Limits.{library_limits}
 use Rattle.format.specs.Lookup.{node_entries_of}
 use Rattle.format.specs.Parsed.{row_at}
 use Rattle.format.specs.NodeLayout.{node_total, node_at}
-use Rattle.format.proofs.GatheredLaws.{map-gathered}
-use Rattle.format.proofs.NodesAccepted.{nodes_none, nodes_more}
-use Rattle.fields.specs.Views.{element_parsed}
-use Rattle.fields.proofs.RowLaws.{Elements, elements_begin, elements_told, elements_next, elements_last, elements_refused}
+use Rattle.fields.proofs.RowLaws.{Elements}
 use Rattle.nodes.specs.Nodes.{node_id}
-use Rattle.nodes.proofs.NodeLaws.{node_size}
-use Rattle.index.specs.Rows.{filled, node_row}
-use Rattle.index.proofs.Again.{unmade}
-use Rattle.index.proofs.ElementLaws.{node_next}
-use Rattle.index.proofs.FillingLaws.{Sized, Filling, filling_begin, filling_next, filling_end}
+use Rattle.index.specs.Rows.{node_row}
+use Rattle.index.proofs.FillingLaws.{Sized, Filling}
 use Rattle.index.proofs.node_rows.rows_at.Given as goal
 
 abbrev pub invariant-loop-left : goal.invariant-loop-left

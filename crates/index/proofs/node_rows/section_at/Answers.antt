@@ -1,5 +1,4 @@
 use mathlib.Core.Path.{refl, sym, ◌∙◌, ap}
-use borrow.Author.Rules.{rules}
 use Rattle.format.specs.Keywords.{node}
 use Rattle.format.specs.NodeLayout.{nodes_at}
 use Rattle.fields.specs.Views.{next_parsed, number_parsed}

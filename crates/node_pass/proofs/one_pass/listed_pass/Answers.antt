@@ -1,15 +1,13 @@
 use Prim.Native.Nat.{ℕ, ◌+◌, ◌≤◌, ◌<◌}
-use mathlib.Core.Path.{◌≡◌, refl, sym, ◌∙◌, ap}
+use mathlib.Core.Path.{refl, sym, ◌∙◌, ap}
 use native.Mathlib.Omega.{arith}
-use borrow.Author.Rules.{rules}
 use lib.ListN.{length, set, length-set, length-replicate}
 use lib.Seq.{length-take-le}
 use Rattle.limits.specs.Limits.{library_limits}
-use Rattle.tables.specs.Indexed.{places_for, IndexOf}
+use Rattle.tables.specs.Indexed.{places_for}
 use Rattle.expressions.proofs.OpeningLaws.{unsaid}
 use Rattle.nodes.specs.Nodes.{node_head_parsed}
-use Rattle.index.proofs.FillingLaws.{Sized}
-use Rattle.node_pass.proofs.ListedLaws.{Listed, listed_begin, listed_next, listed_end, ids_told, head_some}
+use Rattle.node_pass.proofs.ListedLaws.{listed_begin, listed_next, listed_end, ids_told, head_some}
 use Rattle.node_pass.proofs.one_pass.listed_pass.Goals as goal
 
 pub loop-left-init : goal.loop-left-init

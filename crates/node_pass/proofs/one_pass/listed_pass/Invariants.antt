@@ -1,16 +1,11 @@
 -- The invariant: `ids`, `id_index` and `largest` are those of the nodes so far, the tables keep their lengths, the nodes so far have no more instances than there may be, and those that are left decide.
-use Prim.Native.Nat.{ℕ, ◌≤◌}
-use mathlib.Core.Path.{◌≡◌, refl, sym, ◌∙◌, ap}
-use native.Mathlib.Omega.{arith}
-use borrow.Author.Rules.{rules}
-use lib.ListN.{length, length-set, length-replicate}
-use lib.Seq.{length-take-le}
+use Prim.Native.Nat.{◌≤◌}
+use mathlib.Core.Path.{◌≡◌}
+use lib.ListN.{length}
 use Rattle.limits.specs.Limits.{library_limits}
 use Rattle.tables.specs.Indexed.{places_for, IndexOf}
-use Rattle.expressions.proofs.OpeningLaws.{unsaid}
-use Rattle.nodes.specs.Nodes.{node_head_parsed}
 use Rattle.index.proofs.FillingLaws.{Sized}
-use Rattle.node_pass.proofs.ListedLaws.{Listed, listed_begin, listed_next, listed_end, ids_told, head_some}
+use Rattle.node_pass.proofs.ListedLaws.{Listed}
 use Rattle.node_pass.proofs.one_pass.listed_pass.Given as goal
 
 abbrev pub invariant-loop-left : goal.invariant-loop-left

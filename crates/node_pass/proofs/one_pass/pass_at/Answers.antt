@@ -1,6 +1,5 @@
 use Prim.Native.Nat.{◌≤◌}
 use mathlib.Core.Path.{sym, subst}
-use borrow.Author.Rules.{rules}
 use Rattle.limits.specs.Limits.{library_limits}
 use Rattle.limits.proofs.LimitsLaws.{nodes_within}
 use Rattle.node_pass.proofs.one_pass.pass_at.Goals as goal

@@ -1,5 +1,4 @@
 use mathlib.Core.Path.{refl}
-use borrow.Author.Rules.{rules}
 use Rattle.node_pass.proofs.NodeLaws.{rows_passed}
 use Rattle.node_pass.proofs.one_pass.rows_pass.Goals as goal
 

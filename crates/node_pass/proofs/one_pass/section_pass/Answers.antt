@@ -1,7 +1,5 @@
 use mathlib.Core.Path.{refl, sym, ◌∙◌, ap}
-use borrow.Author.Rules.{rules}
 use Rattle.format.specs.Keywords.{node}
-use Rattle.expressions.proofs.OpeningLaws.{unsaid}
 use Rattle.fields.specs.Views.{next_parsed, number_parsed}
 use Rattle.node_pass.proofs.NodeLaws.{section_passed}
 use Rattle.node_pass.proofs.one_pass.section_pass.Goals as goal

@@ -1,7 +1,6 @@
 use Prim.Native.Nat.{ℕ}
 use mathlib.Core.Path.{◌≡◌, sym, ◌∙◌, ap}
 use native.Mathlib.Omega.{arith}
-use borrow.Author.Rules.{rules}
 use Rattle.fields.specs.Views.{section_parsed}
 use Rattle.node_pass.proofs.SectionLaws.{one_section}
 use Rattle.node_pass.proofs.section.exact_at.Goals as goal

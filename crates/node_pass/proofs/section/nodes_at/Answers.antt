@@ -1,6 +1,5 @@
 use mathlib.Core.Bool.{not}
 use mathlib.Core.Path.{refl, sym, ap}
-use borrow.Author.Rules.{rules}
 use lib.Seq.{length-take-le}
 use Rattle.node_pass.proofs.SectionLaws.{holds, holds_not, few_taken, kept_exact, kept_passed, parsed_passed}
 use Rattle.node_pass.proofs.section.nodes_at.Goals as goal

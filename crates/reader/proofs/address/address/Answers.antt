@@ -1,5 +1,4 @@
 use mathlib.Core.Path.{sym, ◌∙◌, ap}
-use borrow.Author.Rules.{rules}
 use Rattle.format.proofs.Acceptance.{verdict_out}
 use Rattle.reader.specs.Layout.{layout_parsed}
 use Rattle.reader.proofs.AddressLaws.{accepted, address_accepted, address_refused}

@@ -1,6 +1,5 @@
 use mathlib.Core.Path.{refl, sym, ◌∙◌, ap}
 use native.Mathlib.Omega.{arith}
-use borrow.Author.Rules.{rules}
 use Rattle.format.specs.Refusals.{address_values}
 use Rattle.reader.proofs.AddressLaws.{address_within, address_short, part_is, part_none, part_place}
 use Rattle.reader.proofs.address.address_part.Goals as goal

@@ -1,4 +1,3 @@
-use borrow.Author.Rules.{rules}
 use Rattle.format.specs.Lookup.{register_entries, register_position}
 use Rattle.reader.proofs.AddressLaws.{registers_stand}
 use Rattle.reader.proofs.address.laid_address.Goals as goal

@@ -1,8 +1,5 @@
-use Prim.Native.Nat.{ℕ, ◌<◌}
-use mathlib.Core.Logic.{⊎_elim}
 use mathlib.Core.Path.{sym, ◌∙◌}
 use native.Mathlib.Omega.{arith}
-use borrow.Author.Rules.{rules}
 use Rattle.limits.specs.Classes.{full}
 use Rattle.reader.proofs.ClassesLaws.{class_told, full_exact}
 use Rattle.reader.proofs.classes.+examine_with.Goals as goal
@@ -27,16 +24,16 @@ pub returns-then-is_exact-clause-result_value : goal.returns-then-is_exact-claus
 returns-then-is_exact-clause-result_value t c =
     let h = sym c.is_exact.ensures ∙ c.if-is_exact.true in
     elim c.match-larger.branch [
-      in-1 w ↦ (class_told _ _ _ (w.examine_large-e.ensures.result_value, w.examine_large-e.ensures.result_value_2) w.e-is h).0
-    | in-2 w ↦ (class_told _ _ _ (w.examine_middle-e.ensures.result_value, w.examine_middle-e.ensures.result_value_2) w.e-is h).0
-    | in_default w ↦ (class_told _ _ _ (w.examine_small-e.ensures.result_value, w.examine_small-e.ensures.result_value_2) w.e-is h).0
+      | in-1 w ↦ (class_told _ _ _ (w.examine_large-e.ensures.result_value, w.examine_large-e.ensures.result_value_2) w.e-is h).0
+      | in-2 w ↦ (class_told _ _ _ (w.examine_middle-e.ensures.result_value, w.examine_middle-e.ensures.result_value_2) w.e-is h).0
+      | in_default w ↦ (class_told _ _ _ (w.examine_small-e.ensures.result_value, w.examine_small-e.ensures.result_value_2) w.e-is h).0
     ]
 
 pub returns-then-is_exact-clause-result_value_2 : goal.returns-then-is_exact-clause-result_value_2
 returns-then-is_exact-clause-result_value_2 t c =
     let h = sym c.is_exact.ensures ∙ c.if-is_exact.true in
     elim c.match-larger.branch [
-      in-1 w ↦ (class_told _ _ _ (w.examine_large-e.ensures.result_value, w.examine_large-e.ensures.result_value_2) w.e-is h).1
-    | in-2 w ↦ (class_told _ _ _ (w.examine_middle-e.ensures.result_value, w.examine_middle-e.ensures.result_value_2) w.e-is h).1
-    | in_default w ↦ (class_told _ _ _ (w.examine_small-e.ensures.result_value, w.examine_small-e.ensures.result_value_2) w.e-is h).1
+      | in-1 w ↦ (class_told _ _ _ (w.examine_large-e.ensures.result_value, w.examine_large-e.ensures.result_value_2) w.e-is h).1
+      | in-2 w ↦ (class_told _ _ _ (w.examine_middle-e.ensures.result_value, w.examine_middle-e.ensures.result_value_2) w.e-is h).1
+      | in_default w ↦ (class_told _ _ _ (w.examine_small-e.ensures.result_value, w.examine_small-e.ensures.result_value_2) w.e-is h).1
     ]

@@ -1,5 +1,4 @@
 use mathlib.Core.Path.{sym, ◌∙◌, ap}
-use borrow.Author.Rules.{rules}
 use Rattle.limits.specs.Classes.{small}
 use Rattle.limits.specs.Limits.{limits_of}
 use Rattle.reader.specs.Layout.{layout_parsed}

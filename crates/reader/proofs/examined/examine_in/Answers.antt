@@ -1,6 +1,5 @@
 use mathlib.Core.Path.{sym, ◌∙◌, ap}
 use native.Mathlib.Omega.{arith}
-use borrow.Author.Rules.{rules}
 use Rattle.format.specs.Parsed.{making}
 use Rattle.fields.specs.Views.{next_parsed}
 use Rattle.reader.specs.Layout.{layout_parsed}

@@ -1,7 +1,6 @@
 use mathlib.Core.Path.{sym}
 use lib.ListN.{length}
 use lib.Seq.{length-take-le}
-use borrow.Author.Rules.{rules}
 use Rattle.reader.proofs.ExaminedLaws.{usable_out, entries_part}
 use Rattle.reader.proofs.examined.judge.Goals as goal
 

@@ -1,4 +1,3 @@
-use borrow.Author.Rules.{rules}
 use Rattle.reader.proofs.CycleLaws.{fault_found, fault_none}
 use Rattle.reader.proofs.faults.cycle_fault.Goals as goal
 

@@ -1,7 +1,6 @@
 use Prim.Native.Nat.{ℕ}
 use mathlib.Core.Path.{◌≡◌, ap}
 use native.Mathlib.Omega.{arith}
-use borrow.Author.Rules.{rules}
 use Rattle.limits.specs.Limits.{limits_of}
 use Rattle.format.specs.Lookup.{node_entries}
 use Rattle.fields.specs.Views.{next_parsed}

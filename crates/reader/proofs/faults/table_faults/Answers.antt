@@ -1,7 +1,6 @@
 use Prim.Native.Nat.{ℕ}
 use mathlib.Core.Path.{◌≡◌, ap}
 use native.Mathlib.Omega.{arith}
-use borrow.Author.Rules.{rules}
 use Rattle.fields.specs.Views.{next_parsed}
 use Rattle.reader.proofs.FaultsLaws.{all_refused, all_cycles}
 use Rattle.reader.proofs.NameLaws.{few_nodes}

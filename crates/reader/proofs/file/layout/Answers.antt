@@ -1,5 +1,4 @@
 use mathlib.Core.Path.{refl}
-use borrow.Author.Rules.{rules}
 use Rattle.reader.specs.Layout.{layout_at}
 use Rattle.fields.proofs.Steps.{number_then, number_stop}
 use Rattle.reader.proofs.LayoutLaws.{section_then, section_stop, nodes_then, nodes_stop, last_makes, last_no, summary_is, same_nodes, same_registers, same_kept, same_index, no_layout}

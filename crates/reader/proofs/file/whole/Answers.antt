@@ -1,5 +1,4 @@
 use mathlib.Core.Path.{refl, sym, ◌∙◌, ap}
-use borrow.Author.Rules.{rules}
 use Rattle.reader.specs.Layout.{layout_parsed}
 use Rattle.reader.proofs.LayoutLaws.{no_layout}
 use Rattle.reader.proofs.WholeLaws.{whole_long, whole_refused, whole_more, whole_done}

@@ -1,4 +1,3 @@
-use borrow.Author.Rules.{rules}
 use Rattle.fields.proofs.Steps.{steps}
 use Rattle.reader.proofs.RootLaws.{root_told}
 use Rattle.reader.proofs.roots.root_at.Goals as goal

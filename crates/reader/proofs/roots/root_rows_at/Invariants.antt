@@ -1,15 +1,11 @@
 -- The invariant: the marks tell the attention types of the roots so far, and those that are left decide.
-use Prim.Native.Nat.{ℕ, ◌+◌}
+use Prim.Native.Nat.{ℕ}
 use mathlib.Core.Bool.{true}
 use mathlib.Core.List.{[]}
-use mathlib.Core.Path.{sym, ◌∙◌, ap}
-use native.Mathlib.Omega.{arith}
-use borrow.Author.Rules.{rules}
 use Rattle.format.specs.Parsed.{row_at}
 use Rattle.format.specs.FileLayout.{root_at}
 use Rattle.reader.specs.Roots.{root_attention}
-use Rattle.fields.specs.Views.{byte_parsed}
-use Rattle.fields.proofs.RowLaws.{Row, row_begin, row_next, row_last, row_refused}
+use Rattle.fields.proofs.RowLaws.{Row}
 use Rattle.reader.proofs.roots.root_rows_at.Given as goal
 
 abbrev pub invariant-loop-left : goal.invariant-loop-left

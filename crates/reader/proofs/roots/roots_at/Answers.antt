@@ -1,5 +1,4 @@
 use mathlib.Core.Path.{refl}
-use borrow.Author.Rules.{rules}
 use Rattle.format.specs.Keywords.{root}
 use Rattle.format.specs.FileLayout.{roots_at}
 use Rattle.fields.proofs.Steps.{steps, next_then', byte_then', forgot_makes_no}

@@ -1,4 +1,3 @@
-use borrow.Author.Rules.{rules}
 use Rattle.reader.proofs.WantedLaws.{root_wanted}
 use Rattle.reader.proofs.wanted.wanted_root.Goals as goal
 

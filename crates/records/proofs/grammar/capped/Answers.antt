@@ -1,6 +1,5 @@
 use borrow.Author.Tests.{le-leb, lt-leb}
 use Rattle.records.specs.Judging.{capped}
-use borrow.Author.Rules.{rules}
 use Rattle.records.proofs.grammar.capped.Goals as goal
 
 pub returns-then-b-left : goal.returns-then-b-left

@@ -1,4 +1,3 @@
-use borrow.Author.Rules.{rules}
 use Rattle.records.proofs.grammar.does_follow.Goals as goal
 
 pub returns-in-Register : goal.returns-in-Register

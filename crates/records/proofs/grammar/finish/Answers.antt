@@ -1,6 +1,5 @@
 use mathlib.Core.Path.{sym, ◌∙◌}
 use Rattle.records.proofs.OwingLaws.{finish_cut, finish_owing, finish_fine}
-use borrow.Author.Rules.{rules}
 use Rattle.records.proofs.grammar.finish.Goals as goal
 
 pub returns-then-end-s : goal.returns-then-end-s

@@ -1,6 +1,4 @@
-use borrow.Author.Tests.{not-true, not-false}
 use Rattle.records.proofs.TestLaws.{not_following, not_counted, used_decides}
-use borrow.Author.Rules.{rules}
 use Rattle.records.proofs.grammar.is_allowed.Goals as goal
 
 pub returns-then-not-does_follow : goal.returns-then-not-does_follow

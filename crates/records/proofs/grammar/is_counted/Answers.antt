@@ -1,6 +1,5 @@
 use mathlib.Core.Path.{refl, ◌∙◌}
 use Rattle.records.proofs.TestLaws.{more}
-use borrow.Author.Rules.{rules}
 use Rattle.records.proofs.grammar.is_counted.Goals as goal
 
 pub returns-in-Register : goal.returns-in-Register

@@ -3,7 +3,6 @@ use borrow.Author.Tests.{ne_eqb}
 use Rattle.format.specs.Fields.{address_size}
 use Rattle.records.specs.Grammar.{wide}
 use Rattle.records.proofs.TestLaws.{within_used}
-use borrow.Author.Rules.{rules}
 use Rattle.records.proofs.grammar.is_instance.Goals as goal
 
 pub returns-then-form-eq1 : goal.returns-then-form-eq1

@@ -1,14 +1,10 @@
 use Prim.Native.Nat.{◌+◌, ◌*◌, ◌≤◌}
-use mathlib.Core.Path.{◌≡◌, sym, ◌∙◌}
-use native.Mathlib.Omega.{arith}
+use mathlib.Core.Path.{◌≡◌}
 use lib.ListN.{length}
-use borrow.Author.Tests.{not-true, not-false}
 use Rattle.format.specs.Parsed.{making}
 use Rattle.records.specs.Record.{records_from}
 use Rattle.records.specs.Grammar.{grammar}
 use Rattle.records.specs.Judging.{rest}
-use Rattle.records.proofs.JudgingLaws.{whole_within, judge_refuses, judge_goes, judge_ends}
-use Rattle.records.proofs.OwingLaws.{grammar_rest, capped_owed}
 use Rattle.records.proofs.grammar.judge.Given as goal
 
 abbrev pub invariant-loop-left : goal.invariant-loop-left

@@ -4,7 +4,6 @@ use native.Mathlib.Numerals.{add-one}
 use native.Mathlib.Omega.{arith}
 use Rattle.records.specs.Grammar.{follows, counted}
 use Rattle.records.proofs.TestLaws.{room, some_owed, allowed_follows, allowed_counted}
-use borrow.Author.Rules.{rules}
 use Rattle.records.proofs.grammar.taken.Goals as goal
 
 pub overflow_add-result : goal.overflow_add-result

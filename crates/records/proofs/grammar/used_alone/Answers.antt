@@ -2,7 +2,6 @@ use mathlib.Core.Path.{refl, ◌∙◌}
 use Rattle.records.specs.declared.Element.TheVariants.{Register, Node, NodeInstance, Capture, Rule, Reading, Constant, All, Any, Inverse, Left, Right, Child, Root, Unknown}
 use Rattle.records.specs.Grammar.{widths}
 use Rattle.records.proofs.TestLaws.{within_used}
-use borrow.Author.Rules.{rules}
 use Rattle.records.proofs.grammar.used_alone.Goals as goal
 
 pub returns-in-Register : goal.returns-in-Register

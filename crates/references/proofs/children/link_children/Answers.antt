@@ -1,12 +1,7 @@
-use Prim.Native.Nat.{◌-◌}
-use mathlib.Core.Path.{◌≡◌, refl, ◌∙◌}
+use mathlib.Core.Path.{refl, ◌∙◌}
 use native.Mathlib.Omega.{arith}
-use borrow.Author.Rules.{rules}
-use borrow.Author.Tests.{not-false}
-use lib.ListN.{length}
 use Rattle.numbers.proofs.Bools.{clash}
-use Rattle.tables.specs.Indexed.{IndexOf}
-use Rattle.references.proofs.LinkingLaws.{Linking, linking_begin, linking_next, linking_end}
+use Rattle.references.proofs.LinkingLaws.{linking_begin, linking_next, linking_end}
 use Rattle.references.proofs.children.link_children.Goals as goal
 
 pub loop-i-init : goal.loop-i-init

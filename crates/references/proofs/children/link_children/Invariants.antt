@@ -1,13 +1,9 @@
 -- The invariant: no child of the node instances before i has a fault, and with the children of those from i on, the table is what it is to be.
 use Prim.Native.Nat.{◌-◌}
-use mathlib.Core.Path.{◌≡◌, refl, ◌∙◌}
-use native.Mathlib.Omega.{arith}
-use borrow.Author.Rules.{rules}
-use borrow.Author.Tests.{not-false}
+use mathlib.Core.Path.{◌≡◌}
 use lib.ListN.{length}
-use Rattle.numbers.proofs.Bools.{clash}
 use Rattle.tables.specs.Indexed.{IndexOf}
-use Rattle.references.proofs.LinkingLaws.{Linking, linking_begin, linking_next, linking_end}
+use Rattle.references.proofs.LinkingLaws.{Linking}
 use Rattle.references.proofs.children.link_children.Given as goal
 
 abbrev pub invariant-loop-i : goal.invariant-loop-i

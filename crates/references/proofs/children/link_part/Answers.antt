@@ -1,19 +1,12 @@
-use Prim.Native.Nat.{◌+◌, ◌*◌, ◌≤◌}
-use mathlib.Core.Bool.{true}
-use mathlib.Core.List.{[]}
-use mathlib.Core.Path.{◌≡◌, refl, sym, ◌∙◌, ap}
+use Prim.Native.Nat.{◌+◌, ◌≤◌}
+use mathlib.Core.Path.{refl, sym, ◌∙◌, ap}
 use native.Mathlib.Omega.{arith}
 use borrow.Author.Rules.{rules}
 use lib.ListN.{length}
 use Rattle.numbers.proofs.Bools.{clash}
-use Rattle.format.specs.Lookup.{gathered}
-use Rattle.format.specs.NodeLayout.{child_at}
-use Rattle.format.specs.Parsed.{row_at}
-use Rattle.tables.specs.Indexed.{IndexOf}
 use Rattle.links.specs.Links.{children_put}
 use Rattle.links.proofs.ChildrenLaws.{linked_none}
-use Rattle.links.proofs.RowLaws.{Going, going_begin, going_next, going_end}
-use Rattle.references.specs.FaultsIn.{child_faults_in}
+use Rattle.links.proofs.RowLaws.{going_begin, going_next, going_end}
 use Rattle.references.proofs.LinkingLaws.{faultless_next, linked_next, faultless_none}
 use Rattle.references.proofs.children.link_part.Goals as goal
 

@@ -2,20 +2,15 @@
 use Prim.Native.Nat.{◌+◌, ◌*◌, ◌≤◌}
 use mathlib.Core.Bool.{true}
 use mathlib.Core.List.{[]}
-use mathlib.Core.Path.{◌≡◌, refl, sym, ◌∙◌, ap}
-use native.Mathlib.Omega.{arith}
-use borrow.Author.Rules.{rules}
+use mathlib.Core.Path.{◌≡◌}
 use lib.ListN.{length}
-use Rattle.numbers.proofs.Bools.{clash}
 use Rattle.format.specs.Lookup.{gathered}
 use Rattle.format.specs.NodeLayout.{child_at}
 use Rattle.format.specs.Parsed.{row_at}
 use Rattle.tables.specs.Indexed.{IndexOf}
 use Rattle.links.specs.Links.{children_put}
-use Rattle.links.proofs.ChildrenLaws.{linked_none}
-use Rattle.links.proofs.RowLaws.{Going, going_begin, going_next, going_end}
+use Rattle.links.proofs.RowLaws.{Going}
 use Rattle.references.specs.FaultsIn.{child_faults_in}
-use Rattle.references.proofs.LinkingLaws.{faultless_next, linked_next, faultless_none}
 use Rattle.references.proofs.children.link_part.Given as goal
 
 abbrev pub invariant-loop-left : goal.invariant-loop-left

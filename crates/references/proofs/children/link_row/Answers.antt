@@ -1,7 +1,6 @@
 use Prim.Native.Nat.{◌+◌, ◌-◌}
 use mathlib.Core.Path.{◌≡◌, refl}
 use native.Mathlib.Omega.{arith}
-use borrow.Author.Rules.{rules}
 use Rattle.numbers.proofs.Bools.{clash}
 use Rattle.references.proofs.LinkingLaws.{row_linked}
 use Rattle.references.proofs.children.link_row.Goals as goal

@@ -1,6 +1,5 @@
 use Prim.Native.Nat.{◌+◌}
 use native.Mathlib.Omega.{arith}
-use borrow.Author.Rules.{rules}
 use Rattle.references.proofs.LinkingLaws.{name_bytes}
 use Rattle.references.proofs.children.name_at.Goals as goal
 

@@ -1,13 +1,10 @@
 -- The invariant: no root before is for the type, so that it is sought among those to come.
 use mathlib.Core.Bool.{true}
 use mathlib.Core.List.{[]}
-use mathlib.Core.Path.{◌∙◌}
-use borrow.Author.Rules.{rules}
 use Rattle.format.specs.FileLayout.{root_at}
 use Rattle.format.specs.Parsed.{row_at}
-use Rattle.links.proofs.RowLaws.{Going, going_begin, going_next, going_stop, going_end}
+use Rattle.links.proofs.RowLaws.{Going}
 use Rattle.references.specs.RootIn.{root_position}
-use Rattle.references.proofs.RootsLaws.{root_found, root_other, root_nowhere}
 use Rattle.references.proofs.roots.find_root.Given as goal
 
 abbrev pub invariant-loop-left : goal.invariant-loop-left

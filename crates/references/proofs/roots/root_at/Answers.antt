@@ -1,5 +1,4 @@
 use mathlib.Core.Path.{sym, ◌∙◌, ap}
-use borrow.Author.Rules.{rules}
 use Rattle.fields.specs.Views.{byte_parsed, number_parsed}
 use Rattle.references.proofs.RootsLaws.{root_again, root_there, root_named, root_typed}
 use Rattle.references.proofs.roots.root_at.Goals as goal

@@ -1,5 +1,4 @@
 use mathlib.Core.Path.{sym, ◌∙◌, ap}
-use borrow.Author.Rules.{rules}
 use Rattle.fields.specs.Views.{next_parsed, byte_parsed}
 use Rattle.format.specs.FileLayout.{roots_at}
 use Rattle.format.specs.Keywords.{root}

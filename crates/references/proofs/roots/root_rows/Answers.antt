@@ -1,15 +1,6 @@
-use mathlib.Core.Bool.{true}
-use mathlib.Core.List.{List, [], map}
-use mathlib.Core.Path.{◌≡◌, sym, ◌∙◌, ap}
-use borrow.Author.Rules.{rules}
-use Rattle.format.specs.FileLayout.{root_at}
-use Rattle.format.specs.Lookup.{NodeEntry}
-use Rattle.format.specs.Parsed.{row_at}
-use Rattle.format.specs.Rules.{Every}
+use mathlib.Core.Path.{sym, ◌∙◌, ap}
 use Rattle.fields.specs.Views.{next_parsed}
-use Rattle.index.specs.Rows.{ReadAgain, entry_place}
-use Rattle.references.specs.FaultsIn.{root_faults_in}
-use Rattle.references.proofs.JudgingLaws.{Judging, judging_begin, judging_next, judging_refused, judging_end}
+use Rattle.references.proofs.JudgingLaws.{judging_begin, judging_next, judging_refused, judging_end}
 use Rattle.references.proofs.roots.root_rows.Goals as goal
 
 pub loop-left-init : goal.loop-left-init

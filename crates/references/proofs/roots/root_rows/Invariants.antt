@@ -1,16 +1,14 @@
 -- The invariant: the roots before have no fault, so that those to come decide.
 use mathlib.Core.Bool.{true}
 use mathlib.Core.List.{List, [], map}
-use mathlib.Core.Path.{◌≡◌, sym, ◌∙◌, ap}
-use borrow.Author.Rules.{rules}
+use mathlib.Core.Path.{◌≡◌}
 use Rattle.format.specs.FileLayout.{root_at}
 use Rattle.format.specs.Lookup.{NodeEntry}
 use Rattle.format.specs.Parsed.{row_at}
 use Rattle.format.specs.Rules.{Every}
-use Rattle.fields.specs.Views.{next_parsed}
 use Rattle.index.specs.Rows.{ReadAgain, entry_place}
 use Rattle.references.specs.FaultsIn.{root_faults_in}
-use Rattle.references.proofs.JudgingLaws.{Judging, judging_begin, judging_next, judging_refused, judging_end}
+use Rattle.references.proofs.JudgingLaws.{Judging}
 use Rattle.references.proofs.roots.root_rows.Given as goal
 
 abbrev pub invariant-loop-left : goal.invariant-loop-left

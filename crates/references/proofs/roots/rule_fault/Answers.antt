@@ -1,4 +1,3 @@
-use borrow.Author.Rules.{rules}
 use Rattle.references.proofs.RootsLaws.{root_ruled, root_unruled, root_absent}
 use Rattle.references.proofs.roots.rule_fault.Goals as goal
 

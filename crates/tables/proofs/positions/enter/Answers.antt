@@ -2,7 +2,6 @@ use Prim.Native.Nat.{suc, ◌%◌}
 use mathlib.Core.Path.{◌≡◌, refl, sym, subst}
 use native.Mathlib.Nat.{mod-eq_of_lt}
 use native.Mathlib.Omega.{arith}
-use borrow.Author.Rules.{rules}
 use Rattle.tables.specs.Indexed.{Indexed}
 use Rattle.tables.proofs.IndexedLaws.{entered_next}
 use Rattle.tables.proofs.TablesLaws.{set_beyond}

@@ -1,4 +1,3 @@
-use borrow.Author.Rules.{rules}
 use Rattle.tables.proofs.IndexedLaws.{indexed_none}
 use Rattle.tables.proofs.positions.enter_all.Goals as goal
 

@@ -1,10 +1,6 @@
-use Prim.Native.Nat.{◌-◌, ◌<◌}
-use mathlib.Core.Path.{◌≡◌, refl, ◌∙◌}
+use mathlib.Core.Path.{refl, ◌∙◌}
 use native.Mathlib.Numerals.{add-one}
 use native.Mathlib.Omega.{arith}
-use borrow.Author.Rules.{rules}
-use lib.ListN.{length}
-use Rattle.tables.specs.Indexed.{Indexed}
 use Rattle.tables.proofs.IndexedLaws.{indexed_fewer}
 use Rattle.tables.proofs.positions.enter_from.Goals as goal
 

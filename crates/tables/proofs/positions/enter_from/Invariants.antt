@@ -1,12 +1,8 @@
 -- The invariant: the numbers before are entered.
 use Prim.Native.Nat.{◌-◌, ◌<◌}
-use mathlib.Core.Path.{◌≡◌, refl, ◌∙◌}
-use native.Mathlib.Numerals.{add-one}
-use native.Mathlib.Omega.{arith}
-use borrow.Author.Rules.{rules}
+use mathlib.Core.Path.{◌≡◌}
 use lib.ListN.{length}
 use Rattle.tables.specs.Indexed.{Indexed}
-use Rattle.tables.proofs.IndexedLaws.{indexed_fewer}
 use Rattle.tables.proofs.positions.enter_from.Given as goal
 
 abbrev pub invariant-loop-i : goal.invariant-loop-i

@@ -1,9 +1,6 @@
-use Prim.Native.Nat.{◌-◌}
 use mathlib.Core.Logic.{inl, inr}
 use native.Mathlib.Omega.{arith}
-use borrow.Author.Rules.{rules}
-use lib.ListN.{length}
-use Rattle.tables.proofs.IndexedLaws.{Passed, passed_none, passed_more, found_none, found_here}
+use Rattle.tables.proofs.IndexedLaws.{passed_none, passed_more, found_none, found_here}
 use Rattle.tables.proofs.positions.find.Goals as goal
 
 pub loop-at-init : goal.loop-at-init

@@ -1,10 +1,7 @@
 -- The invariant: the places passed hold positions of other numbers.
 use Prim.Native.Nat.{◌-◌}
-use mathlib.Core.Logic.{inl, inr}
-use native.Mathlib.Omega.{arith}
-use borrow.Author.Rules.{rules}
 use lib.ListN.{length}
-use Rattle.tables.proofs.IndexedLaws.{Passed, passed_none, passed_more, found_none, found_here}
+use Rattle.tables.proofs.IndexedLaws.{Passed}
 use Rattle.tables.proofs.positions.find.Given as goal
 
 abbrev pub invariant-loop-at : goal.invariant-loop-at

@@ -1,4 +1,3 @@
-use borrow.Author.Rules.{rules}
 use Rattle.tables.specs.Faults.{position_in}
 use Rattle.tables.proofs.positions.find_name.Goals as goal
 

@@ -1,9 +1,5 @@
-use Prim.Native.Nat.{◌-◌, ◌≤◌}
 use mathlib.Core.Logic.{inl, inr}
 use native.Mathlib.Omega.{arith}
-use borrow.Author.Rules.{rules}
-use lib.ListN.{length}
-use Rattle.tables.specs.Indexed.{TakenFrom}
 use Rattle.tables.proofs.IndexedLaws.{taken_more}
 use Rattle.tables.proofs.positions.free_from.Goals as goal
 

@@ -1,11 +1,7 @@
 -- The invariant: the places passed hold positions before p.
 use Prim.Native.Nat.{◌-◌, ◌≤◌}
-use mathlib.Core.Logic.{inl, inr}
-use native.Mathlib.Omega.{arith}
-use borrow.Author.Rules.{rules}
 use lib.ListN.{length}
 use Rattle.tables.specs.Indexed.{TakenFrom}
-use Rattle.tables.proofs.IndexedLaws.{taken_more}
 use Rattle.tables.proofs.positions.free_from.Given as goal
 
 abbrev pub invariant-loop-at : goal.invariant-loop-at
