@@ -1,51 +1,67 @@
 // The station's job: reads chip.cdb and readings.bin in the working folder, takes the value of the first byte of standard input as the attention type (none: 0), and prints the list of active bits or a refusal.
 #![tactic(auto)]
 
-ghost use Rattle.io.specs.Counts.{IsPrefixLen};
+ghost use Rattle.std.specs.Io.{ReadsAtMost};
+ghost use Rattle.std.specs.Prelude.{◌≤◌, length};
 ghost use Rattle.job.specs.Printed.{Printed};
 
-use libc::{STDIN_FILENO, STDOUT_FILENO};
 use report::report;
+use std::io::Read;
+use std::rt::Files;
+use std::{fs, io};
+
+// Reads until the buffer is full or the input ends, and answers how many bytes stand at the buffer's front.
+fn read_full<R: Read>(input: &mut R, bytes: &mut [u8]) -> io::Result<usize>
+    ensures { ReadsAtMost result bytes.new }
+{
+    let mut done = 0;
+    for _ in 0..bytes.len() {
+        let got = input.read(&mut bytes[done..])?;
+        done += got;
+        if got == 0 || done == bytes.len() {
+            break;
+        }
+    }
+    Ok(done)
+}
 
 // The first bytes of a file, as many as there are places for them. A file that cannot be opened counts as empty, and so does one that cannot be read to its end.
-fn read_file(path: &[u8], bytes: &mut [u8]) -> usize
-    ensures { IsPrefixLen result bytes.new }
+fn read_file<R: Files>(rt: &R, path: &str, bytes: &mut [u8]) -> usize
+    ensures { result ≤ length bytes.new }
 {
-    let fd = os::open_read(path);
-    if fd < 0 {
+    let Ok(mut file) = fs::open(rt, path) else {
         return 0;
-    }
-    let n = io::read_full(fd, bytes);
+    };
+    let Ok(n) = read_full(&mut file, bytes) else {
+        return 0;
+    };
     let mut next = [0u8; 1];
-    let got = libc::read(fd, &mut next);
-    libc::close(fd);
-    if got < 0 {
+    if file.read(&mut next).is_err() {
         return 0;
     }
     n
 }
 
 // The value of the first byte of standard input; 0 where there is none.
-fn wanted_type() -> u8 {
+fn wanted_type(rt: &impl Input) -> u8 {
     let mut first = [0u8; 1];
-    let n = io::read_full(STDIN_FILENO, &mut first);
-    if n == 0 {
-        return 0;
+    match rt.reader().read(&mut first) {
+        Ok(1) => first[0],
+        _ => 0,
     }
-    first[0]
 }
 
-// The whole job; the answer is how many bytes the text has. One byte more than a file may have is read of each, so that a longer file is seen to be longer.
-pub fn run() -> usize
-    ensures { Printed result }
+// The whole job; the answer is how many bytes the text has, and whether they could be printed. One byte more than a file may have is read of each, so that a longer file is seen to be longer.
+pub fn run(rt: &(impl Files + Input + Print)) -> (usize, io::Result<()>)
+    ensures { Printed result.0 }
 {
     let mut chip = [0u8; limits::PROGRAM_BYTES + 1];
-    let m = read_file(b"chip.cdb", &mut chip);
+    let m = read_file(rt, "chip.cdb", &mut chip);
     let mut readings = [0u8; limits::PROGRAM_REGISTER_INSTANCES * 16 + 1];
-    let n = read_file(b"readings.bin", &mut readings);
-    let attention = wanted_type();
+    let n = read_file(rt, "readings.bin", &mut readings);
+    let attention = wanted_type(rt);
     let mut text = [0u8; 152_000];
     let k = report(&chip[..m], attention, &readings[..n], &mut text);
-    io::write_all(STDOUT_FILENO, &text[..k]);
-    k
+    let printed = rt.write_all(&text[..k]);
+    (k, printed)
 }

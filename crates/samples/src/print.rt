@@ -2,50 +2,46 @@
 use crate::build::part;
 use format::{Checked, Refusal, Summary, number};
 use isolation::{Isolated, isolate};
-use libc::STDOUT_FILENO;
 use numbers::{ByteRead, NumberRead, Width, byte_at, number_at};
 use reader::check;
 use report::report;
+use std::io;
 
 // A name and a number.
-fn print_number(name: &[u8], n: u64) {
-    io::write_all(STDOUT_FILENO, b" ");
-    io::write_all(STDOUT_FILENO, name);
-    io::write_all(STDOUT_FILENO, b" ");
-    io::print_decimal(STDOUT_FILENO, n);
+fn print_number(rt: &impl Print, name: &str, n: u64) -> io::Result<()> {
+    print!(rt; " {name} {n}")
 }
 
 // What each line begins with.
-fn begin_line(sample: &[u8]) {
-    io::write_all(STDOUT_FILENO, sample);
-    io::write_all(STDOUT_FILENO, b":");
+fn begin_line(rt: &impl Print, sample: &str) -> io::Result<()> {
+    print!(rt; "{sample}:")
 }
 
 // What each line ends with.
-fn end_line() {
-    io::write_all(STDOUT_FILENO, b"\n");
+fn end_line(rt: &impl Print) -> io::Result<()> {
+    println!(rt)
 }
 
 // A refusal: its number and its place.
-fn print_refusal(sample: &[u8], r: Refusal) {
+fn print_refusal(rt: &impl Print, sample: &str, r: Refusal) -> io::Result<()> {
     let kind = r.kind;
-    begin_line(sample);
-    print_number(b"refused", number(kind) as u64);
-    print_number(b"place", r.place as u64);
-    end_line();
+    begin_line(rt, sample)?;
+    print_number(rt, "refused", number(kind) as u64)?;
+    print_number(rt, "place", r.place as u64)?;
+    end_line(rt)
 }
 
 // What an accepted file holds.
-fn print_summary(sample: &[u8], s: Summary) {
-    begin_line(sample);
-    io::write_all(STDOUT_FILENO, b" accepted");
-    print_number(b"model", s.model);
-    print_number(b"registers", s.registers as u64);
-    print_number(b"register instances", s.register_instances as u64);
-    print_number(b"nodes", s.nodes as u64);
-    print_number(b"node instances", s.node_instances as u64);
-    print_number(b"roots", s.roots as u64);
-    end_line();
+fn print_summary(rt: &impl Print, sample: &str, s: Summary) -> io::Result<()> {
+    begin_line(rt, sample)?;
+    print!(rt; " accepted")?;
+    print_number(rt, "model", s.model)?;
+    print_number(rt, "registers", s.registers as u64)?;
+    print_number(rt, "register instances", s.register_instances as u64)?;
+    print_number(rt, "nodes", s.nodes as u64)?;
+    print_number(rt, "node instances", s.node_instances as u64)?;
+    print_number(rt, "roots", s.roots as u64)?;
+    end_line(rt)
 }
 
 // The byte at a place.
@@ -67,66 +63,72 @@ fn wide(s: &[u8], at: usize, width: Width) -> u64 {
 }
 
 // A record of the list: model/level (4 bytes), attention type, bit, node ID (2 bytes), instance, slot, six zeros.
-fn print_record(sample: &[u8], record: &[u8]) {
-    begin_line(sample);
-    print_number(b"model", wide(record, 0, Width::Four));
-    print_number(b"type", byte(record, 4));
-    print_number(b"node", wide(record, 6, Width::Two));
-    print_number(b"inst", byte(record, 8));
-    print_number(b"bit", byte(record, 5));
-    print_number(b"slot", byte(record, 9));
-    end_line();
+fn print_record(rt: &impl Print, sample: &str, record: &[u8]) -> io::Result<()> {
+    begin_line(rt, sample)?;
+    print_number(rt, "model", wide(record, 0, Width::Four))?;
+    print_number(rt, "type", byte(record, 4))?;
+    print_number(rt, "node", wide(record, 6, Width::Two))?;
+    print_number(rt, "inst", byte(record, 8))?;
+    print_number(rt, "bit", byte(record, 5))?;
+    print_number(rt, "slot", byte(record, 9))?;
+    end_line(rt)
 }
 
 // The first records of a list, as many as there are.
-fn print_records(sample: &[u8], list: &[u8], records: usize) {
-    let mut i = 0;
+fn print_records(rt: &impl Print, sample: &str, list: &[u8], records: usize) -> io::Result<()> {
     let mut at = 0;
-    while i < records {
+    for _ in 0..records {
         if list.len() - at < 16 {
-            return;
+            break;
         }
-        print_record(sample, part(list, at, 16));
-        i += 1;
+        print_record(rt, sample, part(list, at, 16))?;
         at += 16;
     }
+    Ok(())
 }
 
 // The step count.
-fn print_steps(sample: &[u8], steps: usize) {
-    begin_line(sample);
-    print_number(b"steps", steps as u64);
-    end_line();
+fn print_steps(rt: &impl Print, sample: &str, steps: usize) -> io::Result<()> {
+    begin_line(rt, sample)?;
+    print_number(rt, "steps", steps as u64)?;
+    end_line(rt)
 }
 
 // The checker's answer.
-pub fn print_check(sample: &[u8], file: &[u8]) {
+pub fn print_check(rt: &impl Print, sample: &str, file: &[u8]) -> io::Result<()> {
     let c = check(file);
     match c {
-        Checked::Accepted(s) => print_summary(sample, s),
-        Checked::Refused(r) => print_refusal(sample, r),
+        Checked::Accepted(s) => print_summary(rt, sample, s),
+        Checked::Refused(r) => print_refusal(rt, sample, r),
     }
 }
 
 // The answer of isolation, with a list of 32 records.
-pub fn print_isolation(sample: &[u8], file: &[u8], attention: u8, words: &[u64], read: &[u8]) {
+pub fn print_isolation(
+    rt: &impl Print,
+    sample: &str,
+    file: &[u8],
+    attention: u8,
+    words: &[u64],
+    read: &[u8],
+) -> io::Result<()> {
     let mut list = [0u8; 512];
     let a = isolate(file, attention, words, read, &mut list);
     match a {
         Isolated::Done(i) => {
-            print_records(sample, &list, i.records);
-            print_steps(sample, i.steps);
+            print_records(rt, sample, &list, i.records)?;
+            print_steps(rt, sample, i.steps)
         }
-        Isolated::Refused(r) => print_refusal(sample, r),
+        Isolated::Refused(r) => print_refusal(rt, sample, r),
     }
 }
 
 // The station's text for type 3 and an empty readings file, where it has one line of at most 64 bytes.
-pub fn print_station(sample: &[u8], file: &[u8]) {
+pub fn print_station(rt: &impl Print, sample: &str, file: &[u8]) -> io::Result<()> {
     let mut text = [0u8; 64];
     let n = report(file, 3, &[], &mut text);
-    io::write_all(STDOUT_FILENO, b"station, ");
-    begin_line(sample);
-    io::write_all(STDOUT_FILENO, b" ");
-    io::write_all(STDOUT_FILENO, part(&text, 0, n));
+    print!(rt; "station, ")?;
+    begin_line(rt, sample)?;
+    print!(rt; " ")?;
+    rt.write_all(part(&text, 0, n))
 }

@@ -1,6 +1,9 @@
 // The station's program.
 #![tactic(auto)]
 
-fn main() {
-    job::run();
+use std::io;
+
+fn main(rt: HostRuntime) -> io::Result<()> {
+    let (_, printed) = job::run(&rt);
+    printed
 }

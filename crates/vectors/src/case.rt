@@ -13,6 +13,7 @@ use format::{Address, Checked};
 use isolation::isolate;
 use reader::address::{address, address_part};
 use reader::check;
+use std::io;
 
 // The start of a file of vectors, and what each case has before its words.
 const START: usize = 16;
@@ -238,45 +239,61 @@ fn is_among(head: &[u8], files: &[u8]) -> bool {
 }
 
 // Compares a case, and names it where it differs.
-fn compare(head: &[u8], body: &[u8], files: &[u8], number: usize, tally: &mut [u64]) {
+fn compare(
+    rt: &impl Print,
+    head: &[u8],
+    body: &[u8],
+    files: &[u8],
+    number: usize,
+    tally: &mut [u64],
+) -> io::Result<()> {
     let file = part(files, four(head, 4), four(head, 8));
     let expected = part(files, four(head, WRITTEN_AT), output_size(head));
     if met(head, body, file, expected, tally) {
-        return;
+        return Ok(());
     }
-    case_line(number, b" differs");
+    case_line(rt, number, " differs")?;
     count(tally, DIFFERENCES, 0);
+    Ok(())
 }
 
 // Says why some bytes are no case.
-fn no_case(number: usize, why: &[u8]) -> usize {
-    case_line(number, why);
-    0
+fn no_case(rt: &impl Print, number: usize, why: &str) -> io::Result<usize> {
+    case_line(rt, number, why)?;
+    Ok(0)
 }
 
 // The case at a place: it is compared, and the place after it is answered; 0 where no case stands there. Its chip data file, of a board all its files, the records that it lends, and what a case of records is to write are parts of `files`, which is the file of vectors up to the first case.
-pub fn case_met(data: &[u8], files: &[u8], at: usize, number: usize, tally: &mut [u64]) -> usize {
+pub fn case_met(
+    rt: &impl Print,
+    data: &[u8],
+    files: &[u8],
+    at: usize,
+    number: usize,
+    tally: &mut [u64],
+) -> io::Result<usize> {
     if data.len() < at {
-        return no_case(number, b" is malformed: not wholly there");
+        return no_case(rt, number, " is malformed: not wholly there");
     }
     if data.len() - at < HEAD {
-        return no_case(number, b" is malformed: not wholly there");
+        return no_case(rt, number, " is malformed: not wholly there");
     }
     let head = part(data, at, HEAD);
     if !formed(head) {
-        return no_case(number, b" is malformed: a field has no such value");
+        return no_case(rt, number, " is malformed: a field has no such value");
     }
     if !is_among(head, files) {
         return no_case(
+            rt,
             number,
-            b" is malformed: its file, or what it is to write, is not among the files",
+            " is malformed: its file, or what it is to write, is not among the files",
         );
     }
     let body = at + HEAD;
     let size = body_size(head);
     if data.len() - body < size {
-        return no_case(number, b" is malformed: not wholly there");
+        return no_case(rt, number, " is malformed: not wholly there");
     }
-    compare(head, part(data, body, size), files, number, tally);
-    body + size
+    compare(rt, head, part(data, body, size), files, number, tally)?;
+    Ok(body + size)
 }

@@ -1,5 +1,5 @@
 // How many cases there were of each outcome: a count for each number from 0, success, to 20, of each kind of case, to 41 of those of records; and how many cases differ.
-use libc::STDOUT_FILENO;
+use std::io;
 
 // Where the counts of each kind begin, where the number of cases that differ stands, and how many places there are.
 pub const CHECKS: usize = 0;
@@ -38,49 +38,41 @@ fn total(counts: &[u64]) -> u64 {
 }
 
 // A number with its count, where it occurred.
-fn print_count(number: usize, count: u64) {
+fn print_count(rt: &impl Print, number: usize, count: u64) -> io::Result<()> {
     if count == 0 {
-        return;
+        return Ok(());
     }
-    io::write_all(STDOUT_FILENO, b" ");
-    io::print_decimal(STDOUT_FILENO, number as u64);
-    io::write_all(STDOUT_FILENO, b":");
-    io::print_decimal(STDOUT_FILENO, count);
+    print!(rt; " {number}:{count}")
 }
 
 // How often each number occurred.
-fn print_counts(counts: &[u64]) {
-    let mut i = 0;
-    while i < counts.len() {
-        print_count(i, counts[i]);
-        i += 1;
+fn print_counts(rt: &impl Print, counts: &[u64]) -> io::Result<()> {
+    for (number, count) in counts.iter().enumerate() {
+        print_count(rt, number, *count)?;
     }
+    Ok(())
 }
 
 // The two lines of a kind.
-fn print_kind(name: &[u8], counts: &[u64]) {
-    io::write_all(STDOUT_FILENO, name);
-    io::write_all(STDOUT_FILENO, b" ");
-    io::print_decimal(STDOUT_FILENO, total(counts));
-    io::write_all(STDOUT_FILENO, b" cases\n");
-    io::write_all(STDOUT_FILENO, name);
-    io::write_all(STDOUT_FILENO, b" by number");
-    print_counts(counts);
-    io::write_all(STDOUT_FILENO, b"\n");
+fn print_kind(rt: &impl Print, name: &str, counts: &[u64]) -> io::Result<()> {
+    let cases = total(counts);
+    println!(rt; "{name} {cases} cases")?;
+    print!(rt; "{name} by number")?;
+    print_counts(rt, counts)?;
+    println!(rt)
 }
 
 // The cases of each kind, how often each number occurred among them, and how many cases differ.
-pub fn print_tally(tally: &[u64]) {
+pub fn print_tally(rt: &impl Print, tally: &[u64]) -> io::Result<()> {
     if tally.len() < PLACES {
-        return;
+        return Ok(());
     }
-    print_kind(b"check", &tally[CHECKS..ADDRESSES]);
-    print_kind(b"address", &tally[ADDRESSES..ISOLATIONS]);
-    print_kind(b"isolation", &tally[ISOLATIONS..BOARDS]);
-    print_kind(b"board", &tally[BOARDS..WRITES]);
-    print_kind(b"write", &tally[WRITES..READS]);
-    print_kind(b"read", &tally[READS..DIFFERENCES]);
-    io::write_all(STDOUT_FILENO, b"differences ");
-    io::print_decimal(STDOUT_FILENO, tally[DIFFERENCES]);
-    io::write_all(STDOUT_FILENO, b"\n");
+    print_kind(rt, "check", &tally[CHECKS..ADDRESSES])?;
+    print_kind(rt, "address", &tally[ADDRESSES..ISOLATIONS])?;
+    print_kind(rt, "isolation", &tally[ISOLATIONS..BOARDS])?;
+    print_kind(rt, "board", &tally[BOARDS..WRITES])?;
+    print_kind(rt, "write", &tally[WRITES..READS])?;
+    print_kind(rt, "read", &tally[READS..DIFFERENCES])?;
+    let differences = tally[DIFFERENCES];
+    println!(rt; "differences {differences}")
 }

@@ -1,5 +1,5 @@
 -- The measure is how many of the eight values are left.
-use Rattle.std.proofs.Common.{◌-◌, rules}
+use Rattle.std.proofs.Common.{◌-◌}
 use Rattle.vectors.proofs.answers.agrees.Given as goal
 
 abbrev pub invariant-loop-i : goal.invariant-loop-i

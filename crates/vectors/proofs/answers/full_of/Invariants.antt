@@ -1,5 +1,5 @@
 -- The measure is what is left of the slice.
-use Rattle.std.proofs.Common.{◌-◌, length, rules}
+use Rattle.std.proofs.Common.{◌-◌, length}
 use Rattle.vectors.proofs.answers.full_of.Given as goal
 
 abbrev pub invariant-loop-i : goal.invariant-loop-i

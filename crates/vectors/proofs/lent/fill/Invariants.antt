@@ -1,5 +1,5 @@
 -- The measure is what is left of the slice, whose length stays.
-use Rattle.std.proofs.Common.{◌≡◌, ◌-◌, length, rules}
+use Rattle.std.proofs.Common.{◌≡◌, ◌-◌, length}
 use Rattle.vectors.proofs.lent.fill.Given as goal
 
 abbrev pub invariant-loop-i : goal.invariant-loop-i

@@ -1,5 +1,5 @@
 -- The measure is how many counts are left.
-use Rattle.std.proofs.Common.{◌-◌, length, rules}
+use Rattle.std.proofs.Common.{◌-◌, length}
 use Rattle.vectors.proofs.tally.total.Given as goal
 
 abbrev pub invariant-loop-i : goal.invariant-loop-i

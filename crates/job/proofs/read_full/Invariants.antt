@@ -1,0 +1,6 @@
+-- So many bytes stand at the front of the buffer.
+use Rattle.std.proofs.Common.{◌≤◌, length}
+use Rattle.job.proofs.read_full.Given as goal
+
+abbrev pub invariant-loop : goal.invariant-loop
+invariant-loop g l = l.done ≤ length l.bytes
