@@ -14,11 +14,9 @@ use Rattle.format.specs.declared.Refusal.{Refusal}
 use Rattle.listing.specs.Records.{record_size}
 use Rattle.listing.specs.Rows.{rows_of, first_rows, kept_count, kept_records}
 use Rattle.listing.proofs.KeptLaws.{most_rows}
-use Rattle.isolation.specs.declared.Isolated
 use Rattle.isolation.specs.declared.Isolated.{Isolated}
 use Rattle.isolation.specs.declared.Kept.{Kept}
 use Rattle.isolation.specs.Outcome.{Outcome, done_outcome, refused_outcome, outcome_of, written, is_exact}
-use Rattle.board.specs.declared.Gathered
 use Rattle.board.specs.declared.Gathered.{Gathered}
 use Rattle.board.specs.Board.{Board, board_fits, Together, slots_from, slots_of, join, BoardOutcome, board_outcome, in_board_list, board}
 use Rattle.board.specs.Rows.{gathered_of, is_gathered}

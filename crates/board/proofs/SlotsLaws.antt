@@ -9,7 +9,6 @@ use lib.ListN.{length, get_or, take, drop, length-drop, drop_of_length-le}
 use lib.Seq.{take_all, take-append-add, length-take-le}
 use borrow.Rule.Slice.PartMut.{mid_of, put_mid}
 use Rattle.limits.specs.Limits.{library_limits, limits_of}
-use Rattle.limits.specs.declared.LimitSet
 use Rattle.limits.specs.declared.LimitSet.{LimitSet}
 use Rattle.numbers.specs.BigEndian.{Bytes}
 use Rattle.numbers.proofs.BigEndianLaws.{bytes_take}
@@ -18,13 +17,11 @@ use Rattle.format.specs.declared.Refusal.{Refusal}
 use Rattle.format.specs.Refusals.{number_of}
 use Rattle.listing.specs.Rows.{rows_of, first_rows, kept_count, kept_records}
 use Rattle.listing.proofs.KeptLaws.{rows_append, count-append, records-append}
-use Rattle.isolation.specs.declared.Found
 use Rattle.isolation.specs.declared.Found.{Found}
 use Rattle.isolation.specs.declared.Kept.{Kept}
 use Rattle.isolation.specs.Outcome.{Findings, stopped, found, find}
 use Rattle.isolation.specs.Rows.{found_of, is_found}
 use Rattle.isolation.proofs.OutcomeLaws.{found_steps}
-use Rattle.board.specs.declared.Gathered
 use Rattle.board.specs.declared.Gathered.{Gathered}
 use Rattle.board.specs.Board.{total, slots_from, Together, stopped_at, joined, before, join_one, join}
 use Rattle.board.specs.Rows.{gathered_of, GatheredWithin, is_gathered}

@@ -3,7 +3,6 @@ use Rattle.std.specs.Prelude.{ℕ, ◌*◌, ◌≤◌, Bool, true, not, List, eq
 use Rattle.limits.specs.Limits.{library_limits}
 use Rattle.format.specs.Refusals.{number_of}
 use Rattle.listing.specs.Rows.{first_rows, kept_count, kept_records}
-use Rattle.board.specs.declared.Gathered
 use Rattle.board.specs.declared.Gathered.{Gathered}
 use Rattle.board.specs.Board.{Together, stopped_at, joined}
 

@@ -11,7 +11,6 @@ use Rattle.limits.specs.Limits.{limits_of}
 use Rattle.format.specs.Lookup.{node_position}
 use Rattle.isolation.specs.ChipGraph.{chip_graph}
 use Rattle.format.proofs.NumberedLaws.{kind_some}
-use Rattle.isolation.specs.declared.Isolated
 use Rattle.isolation.specs.declared.Isolated.{Isolated}
 use Rattle.isolation.specs.declared.Isolation.{Isolation}
 use Rattle.isolation.specs.Outcome.{Outcome, refused_outcome, outcome_of, isolate}

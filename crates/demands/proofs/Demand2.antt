@@ -7,7 +7,6 @@ use lib.ListN.{length}
 use Rattle.limits.specs.declared.LimitSet.{LimitSet}
 use Rattle.limits.specs.Limits.{limits_of}
 use Rattle.numbers.specs.BigEndian.{Bytes}
-use Rattle.format.specs.declared.Checked
 use Rattle.format.specs.declared.Checked.{Checked}
 use Rattle.format.specs.declared.Summary.{Summary}
 use Rattle.format.specs.Parsed.{Parsed, done, refused}

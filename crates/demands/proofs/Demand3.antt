@@ -26,7 +26,6 @@ use Rattle.walk.specs.Marks.{mark_count, finished}
 use Rattle.walk.proofs.StepsLaws.{step_count}
 use Rattle.walk.proofs.WalkLaws.{steps_reached}
 use Rattle.isolation.specs.ChipGraph.{chip_graph}
-use Rattle.isolation.specs.declared.Isolated
 use Rattle.isolation.specs.declared.Isolated.{Isolated}
 use Rattle.isolation.specs.declared.Isolation.{Isolation}
 use Rattle.isolation.specs.Outcome.{done_outcome, outcome_of, reached_unread, isolate}

@@ -11,7 +11,6 @@ use Rattle.walk.specs.declared.Walked.{Walked}
 use Rattle.walk.specs.Steps.{StepCount}
 use Rattle.isolation.specs.ChipGraph.{chip_graph}
 use Rattle.isolation.specs.Outcome.{Outcome, outcome_of, isolate}
-use Rattle.isolation.specs.declared.Isolated
 use Rattle.isolation.specs.declared.Isolated.{Isolated}
 use Rattle.isolation.specs.declared.Isolation.{Isolation}
 use Rattle.listing.specs.Records.{records_of}

@@ -2,7 +2,7 @@
 use Prim.Native.Nat.{ℕ, zero, suc, ◌+◌, ◌-◌, ◌≤◌, ◌<◌}
 use mathlib.Core.Bool.{Bool, true, false, not, ◌||◌}
 use mathlib.Core.List.{List, [], ◌∷◌}
-use mathlib.Core.Logic.{◌⊎◌, ⊎_elim}
+use mathlib.Core.Logic.{⊎_elim}
 use mathlib.Core.Path.{◌≡◌, refl, sym, ◌∙◌, ap, subst}
 use native.Mathlib.Numerals.{add-one}
 use native.Mathlib.Omega.{arith}
@@ -12,7 +12,7 @@ use borrow.Author.Tests.{eq-eqb, ne_eqb, le-ltb, lt-ltb}
 use Rattle.numbers.proofs.Bools.{clash}
 use Rattle.format.specs.ExpressionLayout.{expr_at}
 use Rattle.limits.specs.Limits.{levels}
-use Rattle.format.specs.Lookup.{some, at, gathered, NodeEntry}
+use Rattle.format.specs.Lookup.{some, gathered, NodeEntry}
 use Rattle.format.specs.Parsed.{done}
 use Rattle.format.specs.References.{Fault}
 use Rattle.format.specs.Tree.{Expr, Rule}

@@ -12,7 +12,7 @@ use Rattle.numbers.specs.Bits.{bit_of}
 use Rattle.numbers.proofs.BitsLaws.{bit_out}
 use Rattle.numbers.proofs.Bools.{clash, and_right}
 use Rattle.graph.specs.Chains.{Sound}
-use Rattle.format.specs.Lookup.{some, node_entries}
+use Rattle.format.specs.Lookup.{node_entries}
 use Rattle.format.specs.Meaning.{value_within}
 use Rattle.format.specs.Rules.{all_children, NamesPresent}
 use Rattle.format.specs.Tree.{Rule, Chip}

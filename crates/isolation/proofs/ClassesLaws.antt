@@ -2,7 +2,7 @@
 use Prim.Native.Nat.{ℕ, ◌*◌, ◌≤◌, ◌<◌}
 use mathlib.Core.Bool.{Bool, true, false, cond, not, ◌&&◌}
 use mathlib.Core.List.{List}
-use mathlib.Core.Logic.{◌⊎◌, ⊎_elim}
+use mathlib.Core.Logic.{⊎_elim}
 use mathlib.Core.Path.{◌≡◌, refl, sym, ◌∙◌, ap}
 use native.Mathlib.Omega.{arith}
 use lib.Dec.{leb, eqb}
@@ -18,14 +18,12 @@ use Rattle.format.specs.Parsed.{refused, making}
 use Rattle.format.specs.Refusals.{number_of}
 use Rattle.format.specs.Verdict.{verdict, counts_of}
 use Rattle.reader.specs.declared.Layout.{Layout}
-use Rattle.reader.specs.declared.LayoutRead
 use Rattle.reader.specs.declared.LayoutRead.{LayoutRead}
 use Rattle.reader.specs.Classes.{class_room}
 use Rattle.reader.specs.Examined.{Lengths, lengths_of, room_for, Examined}
 use Rattle.reader.specs.Layout.{layout_parsed, layout_values}
 use Rattle.reader.proofs.ClassesLaws.{class_lengths, full_room}
 use Rattle.reader.proofs.ExaminedLaws.{roomy, room_laid, done_room, refused_room}
-use Rattle.isolation.specs.declared.Isolated
 use Rattle.isolation.specs.declared.Isolated.{Isolated}
 use Rattle.isolation.specs.Outcome.{Outcome, refused_outcome, outcome_of, is_exact, isolate}
 use Rattle.isolation.specs.Ready.{Tabled, both_fit, tables_fit, room_in}

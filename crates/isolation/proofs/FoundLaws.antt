@@ -19,7 +19,6 @@ use Rattle.format.specs.Parsed.{Parsed, done, refused}
 use Rattle.reader.proofs.ClassesLaws.{full_room}
 use Rattle.reader.proofs.ExaminedLaws.{roomy}
 use Rattle.listing.specs.Rows.{first_rows}
-use Rattle.isolation.specs.declared.Found
 use Rattle.isolation.specs.declared.Found.{Found}
 use Rattle.isolation.specs.Outcome.{Outcome, refused_outcome, Findings, stopped, find, in_list}
 use Rattle.isolation.specs.Ready.{room_in}

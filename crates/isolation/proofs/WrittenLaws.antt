@@ -7,12 +7,10 @@ use native.Mathlib.Omega.{arith}
 use lib.ListN.{length, take, drop}
 use lib.Seq.{length-take-le}
 use Rattle.limits.specs.Limits.{library_limits, slots, board_node_instances}
-use Rattle.listing.specs.declared.Listing
 use Rattle.listing.specs.declared.Listing.{Listing}
 use Rattle.listing.specs.Records.{record_size}
 use Rattle.listing.specs.Rows.{Row, rows_of, first_rows, kept_count, kept_records, written_with, no_room_with, listing_values, has_room, listing_for, list_after}
 use Rattle.listing.proofs.WriteLaws.{kept-length}
-use Rattle.isolation.specs.declared.Found
 use Rattle.isolation.specs.declared.Found.{Found}
 use Rattle.isolation.specs.declared.Kept.{Kept}
 use Rattle.isolation.specs.Outcome.{Outcome, done_outcome, refused_outcome, written, in_list}

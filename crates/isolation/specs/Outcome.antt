@@ -9,7 +9,6 @@ use Rattle.format.specs.References.{Fault}
 use Rattle.format.specs.Refusals.{number_of}
 use Rattle.format.specs.Tree.{Root, Chip}
 use Rattle.format.specs.Verdict.{verdict}
-use Rattle.isolation.specs.declared.Isolated
 use Rattle.isolation.specs.declared.Isolated.{Isolated}
 use Rattle.isolation.specs.Readings.{readings_fit}
 use Rattle.format.specs.Finding.{rule_for, root_for}

@@ -5,7 +5,6 @@ use Rattle.limits.specs.Limits.{library_limits}
 use Rattle.format.specs.Refusals.{number_of}
 use Rattle.reader.specs.Examined.{Lengths}
 use Rattle.listing.specs.Rows.{first_rows, kept_count, kept_records}
-use Rattle.isolation.specs.declared.Found
 use Rattle.isolation.specs.declared.Found.{Found}
 use Rattle.isolation.specs.Outcome.{Findings, stopped, found}
 

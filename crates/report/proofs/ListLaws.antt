@@ -7,12 +7,10 @@ use native.Mathlib.Omega.{arith}
 use borrow.Author.Tests.{le-leb, leb-true, eqb-false}
 use lib.Dec.{leb, eqb}
 use lib.ListN.{length, drop, replicate, length-append, length-replicate, get_or-append}
-use Rattle.limits.specs.declared.LimitSet
 use Rattle.limits.specs.declared.LimitSet.{LimitSet}
 use Rattle.limits.specs.Limits.{program_limits, limits_of}
 use Rattle.numbers.specs.BigEndian.{Bytes}
 use Rattle.listing.specs.Records.{record_size}
-use Rattle.isolation.specs.declared.Isolated
 use Rattle.isolation.specs.declared.Isolated.{Isolated}
 use Rattle.isolation.specs.Outcome.{Outcome, done_outcome, refused_outcome, outcome_of, Findings, stopped, found, written, in_list}
 use Rattle.isolation.proofs.OutcomeLaws.{found-length}

@@ -9,7 +9,6 @@ use lib.ListN.{length, take}
 use borrow.Author.Tests.{le-leb, lt-leb, leb-true, leb-false, eqb-true, eqb-false, not-true, not-false}
 use Rattle.numbers.proofs.Bools.{clash}
 use Rattle.limits.specs.Limits.{Limits}
-use Rattle.format.specs.declared.Checked
 use Rattle.format.specs.declared.Checked.{Checked}
 use Rattle.format.specs.declared.Refusal.{Refusal}
 use Rattle.format.specs.declared.Summary.{Summary}
@@ -21,7 +20,6 @@ use Rattle.format.proofs.NumberedLaws.{kind_some, verdict_numbered}
 use Rattle.records.specs.Record.{records_in, at_front}
 use Rattle.packing.specs.Packing.{file_of}
 use Rattle.packing.specs.Writing.{packed_in}
-use Rattle.writer.specs.declared.Output
 use Rattle.writer.specs.declared.Output.{Output}
 use Rattle.writer.specs.Writing.{Answer, refused_answer, in_output, answer_of}
 use Rattle.writer.proofs.AnswerLaws.{accepted_verdict}

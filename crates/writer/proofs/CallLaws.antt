@@ -9,7 +9,6 @@ use borrow.Author.Tests.{le-leb, lt-leb}
 use Rattle.limits.specs.Limits.{Limits, library_limits}
 use Rattle.numbers.specs.BigEndian.{Bytes}
 use Rattle.format.specs.Refusals.{number_of, checked_values}
-use Rattle.format.specs.declared.Checked
 use Rattle.format.specs.declared.Checked.{Checked}
 use Rattle.format.specs.declared.Summary.{Summary}
 use Rattle.format.specs.Tree.{Chip}
@@ -19,7 +18,6 @@ use Rattle.format.specs.declared.Refusal.{Refusal}
 use Rattle.format.specs.Parsed.{Parsed, done, refused, and_then, making}
 use Rattle.format.proofs.ParsedLaws.{never}
 use Rattle.records.specs.declared.Before.{Before}
-use Rattle.records.specs.declared.grammar.Judged
 use Rattle.records.specs.declared.grammar.Judged.{Judged}
 use Rattle.records.specs.Record.{records_in, at_front}
 use Rattle.records.specs.Elements.{elements, records}

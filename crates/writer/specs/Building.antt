@@ -4,7 +4,6 @@ use Rattle.limits.specs.Limits.{Limits}
 use Rattle.format.specs.Refusals.{number_of}
 use Rattle.format.specs.Parsed.{Parsed, making}
 use Rattle.format.specs.Verdict.{verdict}
-use Rattle.writer.specs.declared.Output
 use Rattle.writer.specs.declared.Output.{Output}
 use Rattle.writer.specs.Writing.{Answer, refused_answer, in_output}
 

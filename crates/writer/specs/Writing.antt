@@ -9,7 +9,6 @@ use Rattle.records.specs.Record.{records_in}
 use Rattle.records.specs.Elements.{records}
 use Rattle.records.specs.Grammar.{grammar}
 use Rattle.records.specs.Planting.{tree_of}
-use Rattle.writer.specs.declared.Output
 use Rattle.writer.specs.declared.Output.{Output}
 
 -- A whole answer: the number and place of a refusal, number 0 where there is none; how many bytes were written; and what the lent output then holds.

@@ -1,7 +1,5 @@
-use Prim.Native.Nat.{ℕ, ◌<◌}
 use mathlib.Core.Path.{sym, ap, ◌∙◌}
 use native.Mathlib.Omega.{arith}
-use borrow.Author.Rules.{rules}
 use Rattle.limits.specs.Limits.{library_limits}
 use Rattle.board.specs.Board.{board_of, slots_of, join, in_board_list}
 use Rattle.board.proofs.+board_with.Goals as goal

@@ -1,5 +1,4 @@
 use mathlib.Core.Path.{sym, ◌∙◌}
-use borrow.Author.Rules.{rules}
 use Rattle.board.proofs.BoardLaws.{board_fitting, board_unfit}
 use Rattle.board.proofs.board.Goals as goal
 

@@ -1,4 +1,3 @@
-use borrow.Author.Rules.{rules}
 use Rattle.board.proofs.BoardLaws.{full_tables}
 use Rattle.board.proofs.board_full.Goals as goal
 

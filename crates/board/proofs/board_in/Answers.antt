@@ -1,7 +1,6 @@
 use mathlib.Core.Path.{refl, sym}
 use native.Mathlib.Omega.{arith}
 use lib.Seq.{length-take-le}
-use borrow.Author.Rules.{rules}
 use Rattle.numbers.proofs.Bools.{clash}
 use Rattle.board.specs.Board.{board_of}
 use Rattle.board.proofs.SumsLaws.{fitting}

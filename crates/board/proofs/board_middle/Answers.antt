@@ -1,4 +1,3 @@
-use borrow.Author.Rules.{rules}
 use Rattle.board.proofs.board_middle.Goals as goal
 
 pub returns : goal.returns

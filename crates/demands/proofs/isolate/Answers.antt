@@ -1,5 +1,3 @@
-use borrow.Author.Rules.{rules}
-use Rattle.limits.specs.declared.LimitSet
 use Rattle.limits.specs.declared.LimitSet.{LimitSet}
 use Rattle.limits.specs.Limits.{limits_of}
 use Rattle.demands.proofs.Demand1.{refuses}

@@ -1,4 +1,3 @@
-use borrow.Author.Rules.{rules}
 use Rattle.isolation.proofs.isolate.Goals as goal
 
 pub returns : goal.returns

@@ -2,7 +2,6 @@ use mathlib.Core.List.{[]}
 use mathlib.Core.Path.{sym, ◌∙◌, ap}
 use lib.Dec.{eqb}
 use Rattle.isolation.specs.Outcome.{outcome_of}
-use borrow.Author.Rules.{rules}
 use Rattle.report.proofs.lacks_room.Goals as goal
 
 pub returns-in-Done : goal.returns-in-Done

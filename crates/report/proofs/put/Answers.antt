@@ -1,8 +1,5 @@
-use Prim.Native.Nat.{◌-◌}
 use native.Mathlib.Omega.{arith}
-use borrow.Author.Rules.{rules}
-use lib.ListN.{length}
-use Rattle.report.proofs.TextLaws.{Putting, putting_begin, putting_next, putting_end}
+use Rattle.report.proofs.TextLaws.{putting_begin, putting_next, putting_end}
 use Rattle.report.proofs.put.Goals as goal
 
 pub loop-i-init : goal.loop-i-init

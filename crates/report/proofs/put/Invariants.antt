@@ -1,9 +1,7 @@
 -- The invariant: with the bytes to come, the text is what it is to be.
 use Prim.Native.Nat.{◌-◌}
-use native.Mathlib.Omega.{arith}
-use borrow.Author.Rules.{rules}
 use lib.ListN.{length}
-use Rattle.report.proofs.TextLaws.{Putting, putting_begin, putting_next, putting_end}
+use Rattle.report.proofs.TextLaws.{Putting}
 use Rattle.report.proofs.put.Given as goal
 
 abbrev pub invariant-loop-i : goal.invariant-loop-i

@@ -4,23 +4,21 @@ use Rattle.format.proofs.NumberedLaws.{kind_some}
 use Rattle.isolation.specs.Outcome.{outcome_of}
 use Rattle.report.specs.Text.{refused_line}
 use Rattle.report.proofs.TextLaws.{put_as, done_text, refused_text}
-use borrow.Author.Rules.{rules}
 use Rattle.report.proofs.put_answer.Goals as goal
 
 pub put_done-requires : goal.put_done-requires
 put_done-requires c =
-    
     let e = ap (λ a. (outcome_of a c.args.list.now).records) c.in-Done.is in
     (omega (arith, e, c.requires.0), omega (arith, e, c.requires.1))
 
 pub returns-in-Done : goal.returns-in-Done
 returns-in-Done c = record {
-      put = put_as c.put_done.ensures.put (done_text (sym (ap (λ a. outcome_of a c.args.list.now) c.in-Done.is)));
-      upper_bound = c.put_done.ensures.upper_bound;
-    }
+  put = put_as c.put_done.ensures.put (done_text (sym (ap (λ a. outcome_of a c.args.list.now) c.in-Done.is)));
+  upper_bound = c.put_done.ensures.upper_bound;
+}
 
 pub returns-in-Refused : goal.returns-in-Refused
 returns-in-Refused c = record {
-      put = put_as c.put_refused.ensures.put (ap (λ n. refused_line n c.in-Refused.r.place) c.number.ensures ∙ refused_text (kind_some c.in-Refused.r.kind) (sym (ap (λ a. outcome_of a c.args.list.now) c.in-Refused.is)));
-      upper_bound = c.put_refused.ensures.upper_bound;
-    }
+  put = put_as c.put_refused.ensures.put (ap (λ n. refused_line n c.in-Refused.r.place) c.number.ensures ∙ refused_text (kind_some c.in-Refused.r.kind) (sym (ap (λ a. outcome_of a c.args.list.now) c.in-Refused.is)));
+  upper_bound = c.put_refused.ensures.upper_bound;
+}

@@ -1,4 +1,3 @@
-use borrow.Author.Rules.{rules}
 use Rattle.tables.proofs.TablesLaws.{set_beyond}
 use Rattle.report.proofs.put_byte.Goals as goal
 

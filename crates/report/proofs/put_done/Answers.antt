@@ -1,5 +1,4 @@
 use native.Mathlib.Omega.{arith}
-use borrow.Author.Rules.{rules}
 use Rattle.report.specs.Text.{steps_word, line_end, steps_line}
 use Rattle.report.proofs.LineLaws.{lines_short}
 use Rattle.report.proofs.TextLaws.{put_then}

@@ -1,5 +1,4 @@
 use native.Mathlib.Omega.{arith}
-use borrow.Author.Rules.{rules}
 use Rattle.report.specs.Text.{type_word, node_word, inst_word, bit_word, line_end, bit_line}
 use Rattle.report.proofs.TextLaws.{put_then}
 use Rattle.report.proofs.put_line.Goals as goal

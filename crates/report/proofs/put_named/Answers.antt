@@ -1,5 +1,4 @@
 use native.Mathlib.Omega.{arith}
-use borrow.Author.Rules.{rules}
 use Rattle.report.specs.Text.{named}
 use Rattle.report.proofs.DecimalLaws.{decimal_few}
 use Rattle.report.proofs.TextLaws.{put_then}

@@ -1,5 +1,4 @@
 use native.Mathlib.Omega.{arith}
-use borrow.Author.Rules.{rules}
 use Rattle.report.proofs.TextLaws.{put_as}
 use Rattle.report.proofs.DecimalLaws.{digits_few, digits_decimal}
 use Rattle.report.proofs.put_number.Goals as goal

@@ -1,4 +1,3 @@
-use borrow.Author.Rules.{rules}
 use Rattle.report.proofs.LineLaws.{line_at}
 use Rattle.report.proofs.TextLaws.{put_as}
 use Rattle.report.proofs.put_record.Goals as goal

@@ -1,10 +1,8 @@
-use Prim.Native.Nat.{◌-◌, ◌≤◌}
 use mathlib.Core.Path.{ap, ◌∙◌}
 use native.Mathlib.Omega.{arith}
 use borrow.Author.Rules.{rules}
 use lib.ListN.{length}
 use Rattle.tables.proofs.TablesLaws.{written-length}
-use Rattle.report.specs.Text.{Put, record_lines}
 use Rattle.report.proofs.LineLaws.{lines_short, lines_begin, lines_next, lines_end}
 use Rattle.report.proofs.put_records.Goals as goal
 

@@ -1,5 +1,4 @@
 use native.Mathlib.Omega.{arith}
-use borrow.Author.Rules.{rules}
 use Rattle.report.specs.Text.{refused_word, place_word, line_end, refused_line}
 use Rattle.report.proofs.TextLaws.{put_then}
 use Rattle.report.proofs.put_refused.Goals as goal

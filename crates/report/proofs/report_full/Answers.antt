@@ -4,7 +4,6 @@ use Rattle.report.specs.Report.{station_list, report}
 use Rattle.report.specs.Text.{text_of}
 use Rattle.report.proofs.ListLaws.{answer_room}
 use Rattle.report.proofs.TextLaws.{put_as}
-use borrow.Author.Rules.{rules}
 use Rattle.report.proofs.report_full.Goals as goal
 
 pub put_answer-requires : goal.put_answer-requires

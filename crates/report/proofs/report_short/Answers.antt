@@ -3,7 +3,6 @@ use native.Mathlib.Omega.{arith}
 use Rattle.report.specs.Report.{station_list, report}
 use Rattle.report.proofs.ListLaws.{answer_room, answer_text}
 use Rattle.report.proofs.TextLaws.{put_as, put_none}
-use borrow.Author.Rules.{rules}
 use Rattle.report.proofs.report_short.Goals as goal
 
 pub returns-then-lacks_room : goal.returns-then-lacks_room

@@ -1,5 +1,4 @@
 use Rattle.writer.proofs.BuildingLaws.{file_accepted, file_refused}
-use borrow.Author.Rules.{rules}
 use Rattle.writer.proofs.put_checked.Goals as goal
 
 pub returns-in-Accepted : goal.returns-in-Accepted

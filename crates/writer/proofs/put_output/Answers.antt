@@ -1,5 +1,4 @@
 use Rattle.writer.proofs.CopyLaws.{too_short, fits_in}
-use borrow.Author.Rules.{rules}
 use Rattle.writer.proofs.put_output.Goals as goal
 
 pub returns-then-out-n : goal.returns-then-out-n

@@ -1,7 +1,6 @@
 use mathlib.Core.Path.{sym, ◌∙◌, ap}
 use Rattle.format.specs.Refusals.{checked_values}
 use Rattle.writer.proofs.CallLaws.{read_refused, read_short, read_fits}
-use borrow.Author.Rules.{rules}
 use Rattle.writer.proofs.read.Goals as goal
 
 pub returns-then-out-n : goal.returns-then-out-n

@@ -1,9 +1,5 @@
-use Prim.Native.Nat.{◌+◌, ◌-◌, ◌≤◌}
-use mathlib.Core.Path.{◌≡◌}
 use native.Mathlib.Omega.{arith}
 use borrow.Author.Rules.{rules}
-use lib.ListN.{length, drop}
-use Rattle.board.specs.Board.{total}
 use Rattle.board.proofs.SumsLaws.{total_all, too_much, sum_next, sum_end}
 use Rattle.board.proofs.sums.adds_up.Goals as goal
 

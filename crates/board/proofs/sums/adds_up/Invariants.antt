@@ -1,11 +1,8 @@
 -- The invariant: the lengths from i on have to add up to what is left.
 use Prim.Native.Nat.{◌+◌, ◌-◌, ◌≤◌}
 use mathlib.Core.Path.{◌≡◌}
-use native.Mathlib.Omega.{arith}
-use borrow.Author.Rules.{rules}
 use lib.ListN.{length, drop}
 use Rattle.board.specs.Board.{total}
-use Rattle.board.proofs.SumsLaws.{total_all, too_much, sum_next, sum_end}
 use Rattle.board.proofs.sums.adds_up.Given as goal
 
 abbrev pub invariant-loop-i : goal.invariant-loop-i

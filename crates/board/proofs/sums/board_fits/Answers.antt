@@ -1,4 +1,3 @@
-use borrow.Author.Rules.{rules}
 use Rattle.board.proofs.SumsLaws.{no_slot, many_slots, word-list, read-list, file-sum, word_sum, read-sum}
 use mathlib.Core.Bool.{not}
 use mathlib.Core.Path.{ap}

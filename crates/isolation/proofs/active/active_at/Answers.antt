@@ -1,5 +1,4 @@
 use mathlib.Core.Path.{refl}
-use borrow.Author.Rules.{rules}
 use Rattle.isolation.proofs.ActivityLaws.{unread_yes, unread_no}
 use Rattle.isolation.proofs.active.active_at.Goals as goal
 

@@ -1,10 +1,6 @@
 -- No byte passed is above 1.
 use Prim.Native.Nat.{ℕ, ◌≤◌, ◌<◌, ◌-◌}
-use native.Mathlib.Omega.{arith}
-use borrow.Author.Count.{below_more}
-use borrow.Author.Rules.{rules}
 use lib.ListN.{length, get_or}
-use Rattle.isolation.proofs.ActivityLaws.{known_no, known_yes}
 use Rattle.isolation.proofs.active.all_known.Given as goal
 
 abbrev pub invariant-loop-i : goal.invariant-loop-i

@@ -1,9 +1,7 @@
 -- No node instance passed is done and has a place.
 use mathlib.Core.Path.{◌≡◌}
 use Prim.Native.Nat.{◌≤◌, ◌-◌}
-use borrow.Author.Rules.{rules}
 use Rattle.isolation.specs.Activity.{first_unread}
-use Rattle.isolation.proofs.ActivityLaws.{first_begin, first_more, first_found, first_end}
 use Rattle.isolation.proofs.active.first_unread.Given as goal
 
 abbrev pub invariant-loop-i : goal.invariant-loop-i

@@ -1,4 +1,3 @@
-use borrow.Author.Rules.{rules}
 use Rattle.isolation.proofs.ActivityLaws.{words_other, read_other, both-fit}
 use Rattle.isolation.proofs.active.readings_fit.Goals as goal
 

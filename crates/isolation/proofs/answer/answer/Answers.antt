@@ -1,5 +1,4 @@
 use lib.ListN.{length}
-use borrow.Author.Rules.{rules}
 use Rattle.isolation.specs.Ready.{both_fit}
 use Rattle.isolation.specs.Outcome.{isolate}
 use Rattle.isolation.proofs.FoundLaws.{within_same, answered}

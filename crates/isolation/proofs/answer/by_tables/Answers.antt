@@ -1,5 +1,4 @@
 use mathlib.Core.Path.{refl}
-use borrow.Author.Rules.{rules}
 use Rattle.isolation.proofs.RootLaws.{small_type, large_type, rootless, unfitting, ready}
 use Rattle.isolation.proofs.answer.by_tables.Goals as goal
 

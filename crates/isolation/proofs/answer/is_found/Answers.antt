@@ -1,7 +1,6 @@
 use mathlib.Core.Bool.{not}
 use mathlib.Core.Path.{sym, ◌∙◌, ap}
 use lib.Dec.{eqb}
-use borrow.Author.Rules.{rules}
 use Rattle.isolation.specs.Rows.{is_found}
 use Rattle.isolation.proofs.answer.is_found.Goals as goal
 

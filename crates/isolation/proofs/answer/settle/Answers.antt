@@ -1,6 +1,5 @@
 use mathlib.Core.Path.{sym, ◌∙◌}
 use native.Mathlib.Omega.{arith}
-use borrow.Author.Rules.{rules}
 use Rattle.isolation.proofs.SettleLaws.{size_within, root_in, settled_unread, settled_found}
 use Rattle.isolation.proofs.answer.settle.Goals as goal
 

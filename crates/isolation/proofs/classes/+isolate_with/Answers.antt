@@ -1,7 +1,5 @@
-use Prim.Native.Nat.{ℕ, ◌<◌}
 use mathlib.Core.Path.{sym, ◌∙◌, ap}
 use native.Mathlib.Omega.{arith}
-use borrow.Author.Rules.{rules}
 use Rattle.limits.specs.Classes.{full}
 use Rattle.isolation.specs.Outcome.{isolate}
 use Rattle.isolation.proofs.ClassesLaws.{class_exact, class_kept, isolate_number, full_outcome}

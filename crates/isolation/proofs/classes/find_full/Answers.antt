@@ -1,4 +1,3 @@
-use borrow.Author.Rules.{rules}
 use Rattle.limits.specs.Classes.{full}
 use Rattle.isolation.proofs.FoundLaws.{lent_found}
 use Rattle.isolation.proofs.classes.find_full.Goals as goal

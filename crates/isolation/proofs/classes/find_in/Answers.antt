@@ -1,6 +1,4 @@
 use mathlib.Core.Path.{refl, sym, ◌∙◌}
-use borrow.Author.Rules.{rules}
-use Rattle.limits.specs.declared.LimitSet
 use Rattle.limits.specs.declared.LimitSet.{LimitSet}
 use Rattle.limits.specs.Limits.{limits_of}
 use Rattle.isolation.specs.Outcome.{stopped}

@@ -1,4 +1,3 @@
-use borrow.Author.Rules.{rules}
 use Rattle.limits.specs.Classes.{large}
 use Rattle.isolation.proofs.FoundLaws.{lent_found}
 use Rattle.isolation.proofs.classes.find_large.Goals as goal

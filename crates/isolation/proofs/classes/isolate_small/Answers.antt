@@ -1,4 +1,3 @@
-use borrow.Author.Rules.{rules}
 use Rattle.limits.specs.Classes.{small}
 use Rattle.isolation.specs.Outcome.{isolate}
 use Rattle.isolation.proofs.FoundLaws.{within_same, own_answered}

@@ -1,4 +1,3 @@
-use borrow.Author.Rules.{rules}
 use Rattle.isolation.proofs.ActivityLaws.{entry-active}
 use Rattle.isolation.proofs.ReachLaws.{entry_again}
 use Rattle.isolation.proofs.reach.activity_at.Goals as goal

@@ -1,16 +1,8 @@
-use Prim.Native.Nat.{ℕ, ◌-◌, ◌<◌}
-use mathlib.Core.List.{List}
-use mathlib.Core.Path.{◌≡◌, refl, ◌∙◌}
+use mathlib.Core.Path.{refl, ◌∙◌}
 use native.Mathlib.Omega.{arith}
-use lib.ListN.{length}
-use borrow.Author.Rules.{rules}
-use Rattle.limits.specs.declared.LimitSet.{LimitSet}
-use Rattle.limits.specs.Limits.{library_limits}
-use Rattle.walk.specs.Marks.{waiting_words, step_walk}
+use Rattle.walk.specs.Marks.{step_walk}
 use Rattle.walk.proofs.Step.{state_marks, state_words}
-use Rattle.isolation.specs.Activity.{active_column, unread_column}
-use Rattle.isolation.specs.Ready.{Tabled}
-use Rattle.isolation.proofs.ReachLaws.{Reaching, taken_start, taken_step, taken_end, taken_full}
+use Rattle.isolation.proofs.ReachLaws.{taken_start, taken_step, taken_end, taken_full}
 use Rattle.isolation.proofs.reach.reach.Goals as goal
 
 pub loop-steps-init : goal.loop-steps-init

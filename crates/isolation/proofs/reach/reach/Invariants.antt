@@ -1,17 +1,14 @@
 -- The invariant: so far it is a walk over the whole tables, and what is done stands in those of the code.
 use Prim.Native.Nat.{ℕ, ◌-◌, ◌<◌}
 use mathlib.Core.List.{List}
-use mathlib.Core.Path.{◌≡◌, refl, ◌∙◌}
-use native.Mathlib.Omega.{arith}
+use mathlib.Core.Path.{◌≡◌}
 use lib.ListN.{length}
-use borrow.Author.Rules.{rules}
 use Rattle.limits.specs.declared.LimitSet.{LimitSet}
 use Rattle.limits.specs.Limits.{library_limits}
-use Rattle.walk.specs.Marks.{waiting_words, step_walk}
-use Rattle.walk.proofs.Step.{state_marks, state_words}
+use Rattle.walk.specs.Marks.{waiting_words}
 use Rattle.isolation.specs.Activity.{active_column, unread_column}
 use Rattle.isolation.specs.Ready.{Tabled}
-use Rattle.isolation.proofs.ReachLaws.{Reaching, taken_start, taken_step, taken_end, taken_full}
+use Rattle.isolation.proofs.ReachLaws.{Reaching}
 use Rattle.isolation.proofs.reach.reach.Given as goal
 
 abbrev pub invariant-loop-steps : goal.invariant-loop-steps

@@ -3,7 +3,6 @@ use native.Mathlib.Omega.{arith}
 use lib.Seq.{length-take-le}
 use Rattle.isolation.specs.Outcome.{in_list}
 use Rattle.isolation.proofs.WrittenLaws.{within_rows, few_rows, found_rows}
-use borrow.Author.Rules.{rules}
 use Rattle.isolation.proofs.written.write_found.Goals as goal
 
 pub returns-then-heads-n : goal.returns-then-heads-n

@@ -1,5 +1,4 @@
 use Rattle.isolation.proofs.WrittenLaws.{rows_refused, rows_written}
-use borrow.Author.Rules.{rules}
 use Rattle.isolation.proofs.written.write_rows.Goals as goal
 
 pub returns-in-Written : goal.returns-in-Written

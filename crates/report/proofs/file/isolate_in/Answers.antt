@@ -1,13 +1,10 @@
 use mathlib.Core.Path.{refl, ◌∙◌}
 use native.Mathlib.Omega.{arith}
-use borrow.Author.Tests.{not-true, not-false}
-use Rattle.limits.specs.declared.LimitSet
 use Rattle.limits.specs.declared.LimitSet.{LimitSet}
 use Rattle.limits.specs.Limits.{limits_of}
 use Rattle.isolation.specs.Outcome.{refused_outcome}
 use Rattle.isolation.proofs.ClassesLaws.{unread_short, given_answer, given_refused}
 use Rattle.report.proofs.FileLaws.{answer_file, readings_room, readings_short, readings_in, both_in}
-use borrow.Author.Rules.{rules}
 use Rattle.report.proofs.file.isolate_in.Goals as goal
 
 pub returns-then-not-both_fit : goal.returns-then-not-both_fit

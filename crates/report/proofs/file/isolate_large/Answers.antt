@@ -1,6 +1,5 @@
 use Rattle.limits.specs.Classes.{large}
 use Rattle.report.proofs.FileLaws.{class-room}
-use borrow.Author.Rules.{rules}
 use Rattle.report.proofs.file.isolate_large.Goals as goal
 
 pub returns : goal.returns

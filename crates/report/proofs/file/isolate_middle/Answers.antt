@@ -1,6 +1,5 @@
 use Rattle.limits.specs.Classes.{middle}
 use Rattle.report.proofs.FileLaws.{class-room}
-use borrow.Author.Rules.{rules}
 use Rattle.report.proofs.file.isolate_middle.Goals as goal
 
 pub returns : goal.returns

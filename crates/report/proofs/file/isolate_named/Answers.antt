@@ -1,9 +1,7 @@
 use mathlib.Core.Path.{sym}
 use native.Mathlib.Omega.{arith}
 use lib.Seq.{length-take-le}
-use borrow.Author.Tests.{not-true, not-false}
 use Rattle.report.proofs.FileLaws.{decoded_is, first_in, readings_answer, readings_short, both_in}
-use borrow.Author.Rules.{rules}
 use Rattle.report.proofs.file.isolate_named.Goals as goal
 
 pub returns-then-keys-m : goal.returns-then-keys-m

@@ -1,5 +1,4 @@
 use Rattle.writer.specs.Building.{is_exact}
-use borrow.Author.Rules.{rules}
 use Rattle.writer.proofs.classes.is_exact.Goals as goal
 
 pub returns-in-Written : goal.returns-in-Written

@@ -1,7 +1,6 @@
 use mathlib.Core.Path.{sym}
 use lib.Seq.{length-take-le}
 use Rattle.writer.proofs.BuildingLaws.{too_large, packed_short, packed_answer}
-use borrow.Author.Rules.{rules}
 use Rattle.writer.proofs.classes.write_in.Goals as goal
 
 pub returns-then-buffer-n : goal.returns-then-buffer-n

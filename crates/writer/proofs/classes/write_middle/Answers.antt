@@ -2,7 +2,6 @@ use Prim.Native.Nat.{ℕ}
 use mathlib.Core.Path.{sym}
 use lib.ListN.{length-replicate}
 use Rattle.writer.proofs.BuildingLaws.{same_room}
-use borrow.Author.Rules.{rules}
 use Rattle.writer.proofs.classes.write_middle.Goals as goal
 
 pub slice_bounds-write_in-end : goal.slice_bounds-write_in-end
