@@ -1,5 +1,4 @@
 use mathlib.Core.Path.{sym, ◌∙◌, ap}
-use borrow.Author.Rules.{rules}
 use Rattle.format.specs.Refusals.{address_values}
 use Rattle.abi.specs.Values.{address_list}
 use Rattle.abi.proofs.ValuesLaws.{answered_as, refused_four}

@@ -1,5 +1,4 @@
 use mathlib.Core.Path.{sym, ◌∙◌, ap}
-use borrow.Author.Rules.{rules}
 use Rattle.format.specs.Refusals.{checked_values}
 use Rattle.abi.specs.Values.{check_list}
 use Rattle.abi.proofs.ValuesLaws.{answered_as, refused_eight}

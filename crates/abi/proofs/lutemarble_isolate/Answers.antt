@@ -1,5 +1,4 @@
 use mathlib.Core.Path.{◌∙◌, ap}
-use borrow.Author.Rules.{rules}
 use Rattle.abi.specs.Values.{isolate_list}
 use Rattle.abi.proofs.ValuesLaws.{answered_as, refused_four, outcome_as}
 use Rattle.abi.proofs.lutemarble_isolate.Goals as goal

@@ -1,7 +1,6 @@
 use mathlib.Core.Path.{◌∙◌, ap}
 use Rattle.abi.specs.Values.{output_list}
 use Rattle.abi.proofs.ValuesLaws.{answered_as, refused_three, answer_as}
-use borrow.Author.Rules.{rules}
 use Rattle.abi.proofs.lutemarble_write.Goals as goal
 
 pub returns-in-Written : goal.returns-in-Written

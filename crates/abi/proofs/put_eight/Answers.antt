@@ -1,7 +1,6 @@
 use mathlib.Core.List.{[], ◌∷◌}
 use native.Mathlib.Omega.{arith}
 use lib.ListN.{length-set}
-use borrow.Author.Rules.{rules}
 use Rattle.tables.specs.Tables.{written}
 use Rattle.abi.proofs.ValuesLaws.{answered_short, answered_long}
 use Rattle.abi.proofs.put_eight.Goals as goal

@@ -3,7 +3,6 @@ use native.Mathlib.Omega.{arith}
 use lib.ListN.{length-set}
 use Rattle.tables.specs.Tables.{written}
 use Rattle.abi.proofs.ValuesLaws.{answered_short, answered_long}
-use borrow.Author.Rules.{rules}
 use Rattle.abi.proofs.put_three.Goals as goal
 
 pub returns-then-out-lt3 : goal.returns-then-out-lt3
