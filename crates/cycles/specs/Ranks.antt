@@ -8,6 +8,6 @@ abbrev pub child_passes : (ℕ → Bool) → Option ℕ → Bool
 child_passes p none = false
 child_passes p (some c) = p c
 
--- The place k holds a child, and the rank of the node instance k / 64, whose place it is, and the child's rank pass the test: with leb the child's is not below, with ltb it is above.
+-- The place k holds a child, and the rank of the node instance k / 64, whose place it is, and the child's rank pass the test: with nat_le the child's is not below, with nat_lt it is above.
 unfoldable pub ranks_at : (ℕ → ℕ → Bool) → List ℕ → ℕ → List ℕ → ℕ → Bool
 ranks_at p rank n ch k = child_passes (λ c. p (slice_index rank (k / 64)) (slice_index rank c)) (child_at n ch k)

@@ -2,7 +2,7 @@
 #![tactic(auto)]
 
 ghost use Rattle.std.specs.Io.{ReadsAtMost};
-ghost use Rattle.std.specs.Prelude.{◌≤◌, length};
+ghost use Rattle.std.specs.Prelude.{◌≡◌, ◌≤◌, length, take};
 ghost use Rattle.job.specs.Printed.{Printed};
 
 use report::report;
@@ -27,7 +27,7 @@ fn read_full<R: Read>(input: &mut R, bytes: &mut [u8]) -> io::Result<usize>
 
 // The first bytes of a file, as many as there are places for them. A file that cannot be opened counts as empty, and so does one that cannot be read to its end.
 fn read_file<R: Files>(rt: &R, path: &str, bytes: &mut [u8]) -> usize
-    ensures { result ≤ length bytes.new }
+    ensures { (result ≤ length bytes.new) × (result ≡ length (take result bytes.new)) }
 {
     let Ok(mut file) = fs::open(rt, path) else {
         return 0;

@@ -29,7 +29,7 @@ unfoldable pub sizes : ℕ → List Record → ℕ
 sizes t [] = 0
 sizes t (r ∷ rs) = own_size (address_size t) (element r) + sizes (type_with t r) rs
 
--- How many bytes a file has: keywords, model/level, version and the three counts, and the elements of each section. `FileLaws.type_size`: it is the file's length.
+-- How many bytes a file has: keywords, model/level, version and the three counts, and the elements of each section. `FileLaws.size_of`: it is the file's length.
 unfoldable pub file_size : List Record → ℕ
 file_size rs =
     let first = count_by of_registers rs in

@@ -9,5 +9,3 @@ unfolding node
 returns-in-Number c =
     λ x z. section_passed _ _ _ _ _ _ _ (sym (ap next_parsed c.in-Next.is) ∙ c.keyword_at-k.ensures) (sym (ap number_parsed c.in-Number.is) ∙ c.number_count_at-c.ensures)
     (c.rows_pass-p.ensures x z) refl refl refl refl
-
--- LEFT (λ c. λ i. unsaid)
