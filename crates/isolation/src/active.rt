@@ -85,6 +85,7 @@ fn all_known(read: &[u8]) -> bool
 }
 
 // The readings fit so many register instances. It looks at each read byte once.
+#[tactic(auto, using(crate::proofs::ActivityLaws::words_other))]
 pub fn readings_fit(m: usize, words: &[u64], read: &[u8]) -> bool
     ensures { result ≡ fitting m words.now read.now }
 {

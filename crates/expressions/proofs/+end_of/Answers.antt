@@ -1,4 +1,4 @@
-use mathlib.Core.Path.{refl}
+use mathlib.Core.Path.{◌≡◌, refl}
 use native.Mathlib.Omega.{arith}
 use Rattle.expressions.proofs.HeadLaws.{down_none}
 use Rattle.expressions.proofs.OpeningLaws.{unsaid, opening_level, opening_row, down_on}
@@ -16,12 +16,10 @@ loop-left-init t c = let o = c.opening_at-o.ensures c.if-o-eq0.false in (opening
 pub end_of-next-requires : goal.end_of-next-requires
 end_of-next-requires t c = (omega arith, tt)
 
-pub returns-then-next-eq0 : goal.returns-then-next-eq0
-returns-then-next-eq0 t c = unsaid
-
 pub loop-left-preserved : goal.loop-left-preserved
 loop-left-preserved t c =
-    (c.loop-left.invariant.0, down_on _ _ _ c.loop-left.invariant.1 (c.end_of-next.ensures c.if-next-eq0.false) c.loop-left-test.true)
+    let accepted : c.end_of-next.result ≡ 0 → ⊥ = λ e. omega arith in
+    (c.loop-left.invariant.0, down_on _ _ _ c.loop-left.invariant.1 (c.end_of-next.ensures accepted) c.loop-left-test.true)
 
 pub returns : goal.returns
 returns t c = λ _. down_none _ _ _ c.loop-left.invariant.1 c.loop-left-test.false refl

@@ -1,4 +1,5 @@
-use mathlib.Core.Path.{refl}
+use Prim.Native.Nat.{◌%◌}
+use mathlib.Core.Path.{◌≡◌, refl}
 use native.Mathlib.Omega.{arith}
 use Rattle.numbers.proofs.Bools.{clash}
 use Rattle.naming.proofs.FitRowsLaws.{captures_begin, captures_next, captures_end}
@@ -20,19 +21,17 @@ key_at-requires c = omega (arith, c.loop-left.invariant.0, c.loop-left-test.true
 pub returns-then-keys-k : goal.returns-then-keys-k
 returns-then-keys-k c = λ i e. clash e refl
 
-pub returns-then-entry-ne1 : goal.returns-then-entry-ne1
-returns-then-entry-ne1 c = λ i e. clash e refl
-
 pub overflow_add-place : goal.overflow_add-place
 overflow_add-place c =
     omega (arith, c.loop-left.invariant.0, c.loop-left-test.true)
 
 pub loop-left-preserved : goal.loop-left-preserved
-loop-left-preserved c = (
-  omega (arith, c.loop-left.invariant.0, c.loop-left-test.true),
-  omega (arith, c.loop-left.invariant.1, c.loop-left-test.true),
-  λ i. captures_next (c.loop-left.invariant.2 i) c.loop-left-test.true c.loop-left.invariant.0 c.key_at.ensures (c.find-k.ensures i) c.if-keys-k.false c.entry.ensures c.if-entry-ne1.false,
-)
+loop-left-preserved c =
+    let readable : c.entry.result % 2 ≡ 1 = omega arith in (
+      omega (arith, c.loop-left.invariant.0, c.loop-left-test.true),
+      omega (arith, c.loop-left.invariant.1, c.loop-left-test.true),
+      λ i. captures_next (c.loop-left.invariant.2 i) c.loop-left-test.true c.loop-left.invariant.0 c.key_at.ensures (c.find-k.ensures i) c.if-keys-k.false c.entry.ensures readable,
+    )
 
 pub returns : goal.returns
 returns c = λ i _. captures_end (c.loop-left.invariant.2 i) c.loop-left-test.false c.loop-left.invariant.1

@@ -45,7 +45,7 @@ overflow_add-place c = omega (arith, (c.head_pass-h.ensures c.if-count-eq0.false
 
 pub instances_pass-p-requires : goal.instances_pass-p-requires
 instances_pass-p-requires c =
-    (c.requires, omega (arith, c.if-limit-total.false, c.loop-left.invariant.2))
+    (c.requires, omega (arith, c.loop-left.invariant.2))
 
 pub shape_of-names-then-p-eq0 : goal.shape_of-names-then-p-eq0
 shape_of-names-then-p-eq0 c = c.names-1.given ∙ c.loop-left.invariant.0.keys
@@ -66,13 +66,13 @@ pub overflow_add-bound : goal.overflow_add-bound
 overflow_add-bound c = omega (arith, (c.head_pass-h.ensures c.if-count-eq0.false).small)
 
 pub overflow_add-total : goal.overflow_add-total
-overflow_add-total c = omega (arith, c.if-limit-total.false, c.loop-left.invariant.2)
+overflow_add-total c = omega (arith, c.loop-left.invariant.2)
 
 pub loop-left-preserved : goal.loop-left-preserved
 loop-left-preserved c = (
   record { keys = c.names-1.given ∙ c.loop-left.invariant.0.keys; kinds = c.wanted-1.given ∙ c.loop-left.invariant.0.kinds; places = c.places-1.given ∙ c.loop-left.invariant.0.places },
   c.children-1.given ∙ c.loop-left.invariant.1,
-  omega (arith, c.if-limit-total.false, c.loop-left.invariant.2),
+  omega (arith, c.loop-left.invariant.2),
   λ x. nodes_next _ _ _ _ _ _ _ _ (c.loop-left.invariant.3 x) (c.head_pass-h.ensures c.if-count-eq0.false) (c.instances_pass-p.ensures x c.if-p-eq0.false) c.loop-left-test.true c.both-fits.ensures (omega arith),
 )
 

@@ -1,4 +1,5 @@
-use mathlib.Core.Path.{sym, ◌∙◌, ap}
+use mathlib.Core.Bool.{false}
+use mathlib.Core.Path.{◌≡◌, sym, ◌∙◌, ap}
 use native.Mathlib.Omega.{arith}
 use Rattle.limits.specs.Classes.{large}
 use Rattle.isolation.proofs.ClassesLaws.{class_exact, class_kept, full_outcome}
@@ -20,7 +21,8 @@ isolate_with-requires t c = (omega arith, tt)
 
 pub returns-then-larger-eq2 : goal.returns-then-larger-eq2
 returns-then-larger-eq2 t c =
-    let k = class_kept _ _ _ _ _ _ _ c.isolate_middle-i.ensures (file_number _ _ _ _ _ (λ i. (c.type_inv.file i).fits)) (sym c.is_exact.ensures ∙ c.if-is_exact.false) in
+    let short : c.is_exact.result ≡ false = cc in
+    let k = class_kept _ _ _ _ _ _ _ c.isolate_middle-i.ensures (file_number _ _ _ _ _ (λ i. (c.type_inv.file i).fits)) (sym c.is_exact.ensures ∙ short) in
     c.isolate_with.ensures ∙ ap (isolate_file _ _ _ _) k
 
 pub returns-then-is_exact-2 : goal.returns-then-is_exact-2
