@@ -1,4 +1,6 @@
 -- The laws of answers as lists.
+use Rattle.std.specs.Prelude.{Result}
+use Rattle.format.specs.declared.Refusal.{Refusal}
 use Prim.Native.Nat.{ℕ, ◌≤◌, ◌<◌}
 use mathlib.Core.List.{List, [], ◌∷◌}
 use mathlib.Core.Path.{◌≡◌, sym, ◌∙◌, ap}
@@ -6,10 +8,9 @@ use lib.ListN.{length}
 use borrow.Author.Tests.{le-leb, lt-leb}
 use Rattle.tables.specs.Tables.{written}
 use Rattle.tables.proofs.TablesLaws.{written_front}
-use Rattle.isolation.specs.declared.Isolated.{Isolated}
+use Rattle.isolation.specs.declared.Isolation.{Isolation}
 use Rattle.isolation.specs.Outcome.{Outcome, outcome_of}
 use Rattle.board.specs.Board.{BoardOutcome, board_outcome}
-use Rattle.writer.specs.declared.Output.{Output}
 use Rattle.writer.specs.Writing.{Answer, answer_of}
 use Rattle.abi.specs.Values.{answered}
 
@@ -38,11 +39,11 @@ pub answered_as : {A : Type 0} (f : A → List ℕ) (out : List ℕ) {v w : A} {
 answered_as f out e d = d ∙ ap (λ x. answered (f x) out) e
 
 -- The outcome of an answer whose case is known.
-pub outcome_as : (l : List ℕ) {r s : Isolated} {o : Outcome} → r ≡ s → outcome_of r l ≡ o → outcome_of s l ≡ o
+pub outcome_as : (l : List ℕ) {r s : Result Isolation Refusal} {o : Outcome} → r ≡ s → outcome_of r l ≡ o → outcome_of s l ≡ o
 outcome_as l e d = sym (ap (λ x. outcome_of x l) e) ∙ d
 
-pub board_outcome_as : (l : List ℕ) {k : ℕ} {r s : Isolated} {o : BoardOutcome} → r ≡ s → board_outcome k (outcome_of r l) ≡ o → board_outcome k (outcome_of s l) ≡ o
+pub board_outcome_as : (l : List ℕ) {k : ℕ} {r s : Result Isolation Refusal} {o : BoardOutcome} → r ≡ s → board_outcome k (outcome_of r l) ≡ o → board_outcome k (outcome_of s l) ≡ o
 board_outcome_as l {k} e d = sym (ap (λ x. board_outcome k (outcome_of x l)) e) ∙ d
 
-pub answer_as : (l : List ℕ) {r s : Output} {a : Answer} → r ≡ s → answer_of r l ≡ a → answer_of s l ≡ a
+pub answer_as : (l : List ℕ) {r s : Result ℕ Refusal} {a : Answer} → r ≡ s → answer_of r l ≡ a → answer_of s l ≡ a
 answer_as l e d = sym (ap (λ x. answer_of x l) e) ∙ d

@@ -13,12 +13,11 @@ ghost use Rattle.report.specs.Report.{report};
 ghost use Rattle.abi.specs.Values.{answered, check_list, address_list, isolate_list, board_list, output_list};
 
 use board::board;
-use format::{Address, Checked, number};
-use isolation::{Isolated, isolate};
+use format::number;
+use isolation::{Isolation, isolate};
 use reader::address::address;
 use reader::check;
 use report::report;
-use writer::Output;
 
 // Three numbers at the front of a list that has room for them.
 fn put_three(out: &mut [u64], a: u64, b: u64, c: u64)
@@ -82,9 +81,8 @@ pub extern "C" fn lutemarble_check(file: &[u8], out: &mut [u64]) -> u64
     ensures number { result ≡ (check library_limits file.now).number }
     ensures answer { out.new ≡ answered (check_list (check library_limits file.now)) out.old }
 {
-    let c = check(file);
-    match c {
-        Checked::Accepted(s) => {
+    match check(file) {
+        Ok(s) => {
             put_eight(
                 out,
                 0,
@@ -98,9 +96,8 @@ pub extern "C" fn lutemarble_check(file: &[u8], out: &mut [u64]) -> u64
             );
             0
         }
-        Checked::Refused(r) => {
-            let kind = r.kind;
-            let n = number(kind) as u64;
+        Err(r) => {
+            let n = number(r.kind) as u64;
             put_eight(out, n, r.place as u64, 0, 0, 0, 0, 0, 0);
             n
         }
@@ -113,15 +110,13 @@ pub extern "C" fn lutemarble_address(file: &[u8], id: u64, instance: u8, out: &m
     ensures number { result ≡ (address library_limits file.now id instance).number }
     ensures answer { out.new ≡ answered (address_list (address library_limits file.now id instance)) out.old }
 {
-    let a = address(file, id, instance);
-    match a {
-        Address::At(offset, size) => {
-            put_four(out, 0, 0, offset as u64, size as u64);
+    match address(file, id, instance) {
+        Ok(a) => {
+            put_four(out, 0, 0, a.place as u64, a.size as u64);
             0
         }
-        Address::Refused(r) => {
-            let kind = r.kind;
-            let n = number(kind) as u64;
+        Err(r) => {
+            let n = number(r.kind) as u64;
             put_four(out, n, r.place as u64, 0, 0);
             n
         }
@@ -144,16 +139,14 @@ pub extern "C" fn lutemarble_isolate(
     ensures answer { out.new
         ≡ answered (isolate_list (isolate library_limits file.now attention words.now read.now list.old)) out.old }
 {
-    let a = isolate(file, attention, words, read, list);
-    match a {
-        Isolated::Done(i) => {
+    match isolate(file, attention, words, read, list) {
+        Ok(i) => {
             put_four(out, 0, 0, i.records as u64, i.steps as u64);
             0
         }
-        Isolated::Refused(refusal) => {
-            let kind = refusal.kind;
-            let refused = number(kind) as u64;
-            put_four(out, refused, refusal.place as u64, 0, 0);
+        Err(r) => {
+            let refused = number(r.kind) as u64;
+            put_four(out, refused, r.place as u64, 0, 0);
             refused
         }
     }
@@ -190,15 +183,13 @@ pub extern "C" fn lutemarble_board(
         list,
     );
     let slot = b.slot as u64;
-    let a = b.answer;
-    match a {
-        Isolated::Done(i) => {
+    match b.answer {
+        Ok(i) => {
             put_five(out, 0, 0, i.records as u64, i.steps as u64, slot);
             0
         }
-        Isolated::Refused(r) => {
-            let kind = r.kind;
-            let n = number(kind) as u64;
+        Err(r) => {
+            let n = number(r.kind) as u64;
             put_five(out, n, r.place as u64, 0, 0, slot);
             n
         }
@@ -217,15 +208,13 @@ pub extern "C" fn lutemarble_write(
     ensures file { file.new ≡ (write library_limits model records.now file.old).output }
     ensures answer { out.new ≡ answered (output_list (write library_limits model records.now file.old)) out.old }
 {
-    let w = writer::write(model, records, file);
-    match w {
-        Output::Written(n) => {
+    match writer::write(model, records, file) {
+        Ok(n) => {
             put_three(out, 0, 0, n as u64);
             0
         }
-        Output::Refused(r) => {
-            let kind = r.kind;
-            let n = number(kind) as u64;
+        Err(r) => {
+            let n = number(r.kind) as u64;
             put_three(out, n, r.place as u64, 0);
             n
         }
@@ -239,15 +228,13 @@ pub extern "C" fn lutemarble_read(file: &[u8], records: &mut [u8], out: &mut [u6
     ensures records { records.new ≡ (read library_limits file.now records.old).output }
     ensures answer { out.new ≡ answered (output_list (read library_limits file.now records.old)) out.old }
 {
-    let w = writer::read(file, records);
-    match w {
-        Output::Written(n) => {
+    match writer::read(file, records) {
+        Ok(n) => {
             put_three(out, 0, 0, n as u64);
             0
         }
-        Output::Refused(r) => {
-            let kind = r.kind;
-            let n = number(kind) as u64;
+        Err(r) => {
+            let n = number(r.kind) as u64;
             put_three(out, n, r.place as u64, 0);
             n
         }

@@ -1,4 +1,5 @@
 -- A board's answer by the rows of its slots and a list.
+use Rattle.std.specs.Prelude.{Result, Ok, Err}
 use Prim.Native.Nat.{ℕ, ◌*◌, ◌/◌, ◌≤◌}
 use mathlib.Core.Bool.{Bool, true, false, cond, not}
 use mathlib.Core.List.{List, ◌++◌}
@@ -14,7 +15,7 @@ use Rattle.format.specs.declared.Refusal.{Refusal}
 use Rattle.listing.specs.Records.{record_size}
 use Rattle.listing.specs.Rows.{rows_of, first_rows, kept_count, kept_records}
 use Rattle.listing.proofs.KeptLaws.{most_rows}
-use Rattle.isolation.specs.declared.Isolated.{Isolated}
+use Rattle.isolation.specs.declared.Isolation.{Isolation}
 use Rattle.isolation.specs.declared.Kept.{Kept}
 use Rattle.isolation.specs.Outcome.{Outcome, done_outcome, refused_outcome, outcome_of, written, is_exact}
 use Rattle.board.specs.declared.Gathered.{Gathered}
@@ -41,7 +42,7 @@ unfolding first_rows in_board_list
 rows_answered attention k heads rows list e d = ap (board_outcome 0) d ∙ ap (in_board_list list) e
 
 pub slot_answered : (attention : ℕ) (r : Refusal) (k : ℕ) (heads rows list : List ℕ) {t : Together} → gathered_of attention (Gathered.Refused r k) heads rows ≡ t
-    → board_outcome k (outcome_of (Isolated.Refused r) list) ≡ in_board_list list t
+    → board_outcome k (outcome_of (Err r) list) ≡ in_board_list list t
 unfolding in_board_list
 slot_answered attention r k heads rows list e = ap (in_board_list list) e
 
@@ -49,11 +50,11 @@ pub slots_are : (b : Board) → slots_from 0 b.file_lengths b.word_lengths b.rea
 unfolding slots_of
 slots_are b = refl
 
-pub refused_exact : (r : Refusal) (k : ℕ) → is_exact (Isolated.Refused r) ≡ true → is_gathered (Gathered.Refused r k) ≡ true
+pub refused_exact : (r : Refusal) (k : ℕ) → is_exact (Err r) ≡ true → is_gathered (Gathered.Refused r k) ≡ true
 unfolding is_exact is_gathered
 refused_exact r k h = h
 
-pub exact_refused : (r : Refusal) (k : ℕ) → is_gathered (Gathered.Refused r k) ≡ true → is_exact (Isolated.Refused r) ≡ true
+pub exact_refused : (r : Refusal) (k : ℕ) → is_gathered (Gathered.Refused r k) ≡ true → is_exact (Err r) ≡ true
 unfolding is_exact is_gathered
 exact_refused r k h = h
 
@@ -72,10 +73,10 @@ written_number count records steps list = go (leb count (length list / record_si
     go true = inl refl
     go false = inr refl
 
-pub written_exact : (a : Isolated) (new : List ℕ) (count : ℕ) (records : List ℕ) (steps : ℕ) (list : List ℕ) → outcome_of a new ≡ written count records steps list → is_exact a ≡ true
+pub written_exact : (a : Result Isolation Refusal) (new : List ℕ) (count : ℕ) (records : List ℕ) (steps : ℕ) (list : List ℕ) → outcome_of a new ≡ written count records steps list → is_exact a ≡ true
 unfolding is_exact
-written_exact (Isolated.Done i) new count records steps list e = refl
-written_exact (Isolated.Refused r) new count records steps list e =
+written_exact (Ok i) new count records steps list e = refl
+written_exact (Err r) new count records steps list e =
     ap not
     (ne_eqb _ 43 (λ z.
     let n : (written count records steps list).number ≡ 43 = sym (ap (λ o. o.number) e) ∙ z in
@@ -87,10 +88,10 @@ module _ (attention : ℕ) (b : Board) (g : Gathered) (heads rows : List ℕ)
   pub gathered_is : (k : Kept) → g ≡ Gathered.Rows k → gathered_of attention (Gathered.Rows k) heads rows ≡ join library_limits attention (slots_of b)
   gathered_is k e = sym (ap (λ z. gathered_of attention z heads rows) e) ∙ exact (ap is_gathered e ∙ rows-gathered k) ∙ ap (join library_limits attention) (slots_are b)
 
-  pub stopped_is : (r : Refusal) (q : ℕ) → g ≡ Gathered.Refused r q → is_exact (Isolated.Refused r) ≡ true → gathered_of attention (Gathered.Refused r q) heads rows ≡ join library_limits attention (slots_of b)
+  pub stopped_is : (r : Refusal) (q : ℕ) → g ≡ Gathered.Refused r q → is_exact (Err r) ≡ true → gathered_of attention (Gathered.Refused r q) heads rows ≡ join library_limits attention (slots_of b)
   stopped_is r q e h = sym (ap (λ z. gathered_of attention z heads rows) e) ∙ exact (ap is_gathered e ∙ refused_exact r q h) ∙ ap (join library_limits attention) (slots_are b)
 
-  pub stopped_enough : (r : Refusal) (q : ℕ) → g ≡ Gathered.Refused r q → is_gathered g ≡ true → is_exact (Isolated.Refused r) ≡ true
+  pub stopped_enough : (r : Refusal) (q : ℕ) → g ≡ Gathered.Refused r q → is_gathered g ≡ true → is_exact (Err r) ≡ true
   stopped_enough r q e h = exact_refused r q (sym (ap is_gathered e) ∙ h)
 
 -- The largest tables.

@@ -1,4 +1,5 @@
 -- What slots find one after another, as rows of two tables.
+use Rattle.std.specs.Prelude.{Result, Ok, Err}
 use Prim.Native.Nat.{ℕ, zero, suc, ◌+◌, ◌-◌, ◌*◌, ◌≤◌, ◌<◌}
 use mathlib.Core.Bool.{true}
 use mathlib.Core.List.{List, [], ◌∷◌, ◌++◌, append-nil}
@@ -17,7 +18,6 @@ use Rattle.format.specs.declared.Refusal.{Refusal}
 use Rattle.format.specs.Refusals.{number_of}
 use Rattle.listing.specs.Rows.{rows_of, first_rows, kept_count, kept_records}
 use Rattle.listing.proofs.KeptLaws.{rows_append, count-append, records-append}
-use Rattle.isolation.specs.declared.Found.{Found}
 use Rattle.isolation.specs.declared.Kept.{Kept}
 use Rattle.isolation.specs.Outcome.{Findings, stopped, found, find}
 use Rattle.isolation.specs.Rows.{found_of, is_found}
@@ -115,7 +115,7 @@ module _ (attention k : ℕ) (fl wl rl files words read : List ℕ) (some : 1 �
   rest_is a b c d e f = rw (a, b, c, d, e, f)
 
   -- The first slot is refused.
-  pub slot_stopped : {s : Found} {r : Refusal} (heads rows : List ℕ) → s ≡ Found.Refused r → (is_found s ≡ true → found_of attention s heads rows ≡ first)
+  pub slot_stopped : {s : Result Kept Refusal} {r : Refusal} (heads rows : List ℕ) → s ≡ Err r → (is_found s ≡ true → found_of attention s heads rows ≡ first)
       → is_gathered (Gathered.Refused r k) ≡ true → gathered_of attention (Gathered.Refused r k) heads rows ≡ whole
   unfolding is_found is_gathered join_one
   slot_stopped {r = r} heads rows e exact t =
@@ -123,7 +123,7 @@ module _ (attention k : ℕ) (fl wl rl files words read : List ℕ) (some : 1 �
       sym (join_first ∙ rw (← d))
 
   -- The first slot finds rows.
-  module _ {s : Found} {x : Kept} (heads rows : List ℕ) (e : s ≡ Found.Rows x) (exact : is_found s ≡ true → found_of attention s heads rows ≡ first) where
+  module _ {s : Result Kept Refusal} {x : Kept} (heads rows : List ℕ) (e : s ≡ Ok x) (exact : is_found s ≡ true → found_of attention s heads rows ≡ first) where
     is_first : found (kept_count (first_rows x.rows heads rows)) (kept_records attention (first_rows x.rows heads rows)) x.steps ≡ first
     unfolding is_found
     is_first = (rw e at exact) refl
@@ -162,7 +162,7 @@ pub put_joined : (attention : ℕ) (y : Kept) (heads rows tails ends : List ℕ)
 put_joined attention y heads rows tails ends n a b e = rw (put_rest heads tails n a, put_rest rows ends n b) e
 
 -- A refusal that is not 43.
-pub stopped_found : {s : Found} {r : Refusal} (k : ℕ) → s ≡ Found.Refused r → is_found s ≡ true → is_gathered (Gathered.Refused r k) ≡ true
+pub stopped_found : {s : Result Kept Refusal} {r : Refusal} (k : ℕ) → s ≡ Err r → is_found s ≡ true → is_gathered (Gathered.Refused r k) ≡ true
 unfolding is_found is_gathered
 stopped_found k e h = rw e at h
 

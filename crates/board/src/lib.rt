@@ -13,14 +13,14 @@ use crate::sums::board_fits;
 use format::{Kind, Refusal};
 use isolation::answer::is_exact;
 use isolation::written::write_rows;
-use isolation::{Found, Isolated, Kept, find};
+use isolation::{Isolation, Kept, find};
 
 mod sums;
 
 // The answer of a board: as that of one chip, and the slot that is refused. With success and with 19 and 20 the slot is 0.
 #[derive(Clone, Copy)]
 pub struct Boarded {
-    pub answer: Isolated,
+    pub answer: Result<Isolation, Refusal>,
     pub slot: usize,
 }
 
@@ -67,7 +67,7 @@ fn find_slots(
         rows,
     );
     match s {
-        Found::Rows(x) => {
+        Ok(x) => {
             let n = x.rows;
             let t = find_slots(
                 &files[a..],
@@ -89,7 +89,7 @@ fn find_slots(
                 Gathered::Refused(r, k) => Gathered::Refused(r, k),
             }
         }
-        Found::Refused(r) => Gathered::Refused(r, slot),
+        Err(r) => Gathered::Refused(r, slot),
     }
 }
 
@@ -149,7 +149,7 @@ fn board_in(
             Boarded { answer, slot: 0 }
         }
         Gathered::Refused(r, slot) => Boarded {
-            answer: Isolated::Refused(r),
+            answer: Err(r),
             slot,
         },
     }
@@ -360,7 +360,7 @@ pub fn board(
         );
     }
     Boarded {
-        answer: Isolated::Refused(Refusal {
+        answer: Err(Refusal {
             kind: Kind::BoardUnfit,
             place: 0,
         }),

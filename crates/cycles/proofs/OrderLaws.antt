@@ -74,12 +74,12 @@ unfolding not_earlier
 earlier_none n i c h = rw (le-ltb c n h) (and_none (leb i c))
 
 -- By the difference from i, which wraps.
-module _ (n i x a : ℕ) (wraps : (a + i) % 65536 ≡ x) (small : a < 65536) (few : n < 65536) where
-  pub ahead-not : a < n - i → not_earlier n i x ≡ true
+module _ (n i x : ℕ) (within : i ≤ n) (few : n < 65536) (small : x < 65536) where
+  pub ahead-not : (x + (65536 - i)) % 65536 < n - i → not_earlier n i x ≡ true
   ahead-not h = earlier-not n i x (omega arith) (omega arith)
 
-  pub ahead : n - i ≤ a → i ≤ n → not_earlier n i x ≡ false
-  ahead h l =
+  pub ahead : n - i ≤ (x + (65536 - i)) % 65536 → not_earlier n i x ≡ false
+  ahead h =
       ⊎_elim (λ b. earlier n i x (ltb-true x i b)) (λ b. let k : i ≤ x = ltb-false x i b in earlier_none n i x (omega arith)) (either (ltb x i))
 
 -- The number of a place that holds a child.

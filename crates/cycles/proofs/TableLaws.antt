@@ -1,5 +1,5 @@
 -- The edges of a table of children, and the walk over all of them.
-use Rattle.std.proofs.Common.{◌≡◌, ℕ, ◌+◌, ◌*◌, ◌<◌, ◌≤◌, Bool, true, false, cond, ◌&&◌, eqb, ltb, ◌↔◌, List, length, get_or, take, replicate, sym, refl, ap, ◌∙◌, subst, arith, length-take-le, get_or-take, ltb-true, lt-ltb, ne_eqb, eqb-true}
+use Rattle.std.proofs.Common.{◌≡◌, ℕ, ◌+◌, ◌*◌, ◌<◌, ◌≤◌, Bool, true, false, cond, ◌&&◌, eqb, ltb, ◌↔◌, List, length, get_or, take, replicate, sym, refl, ap, ◌∙◌, subst, arith, length-take-le, get_or-take, ltb-true, lt-ltb, eqb-true}
 use mathlib.Core.Path.{fun_ext}
 use mathlib.Core.Option.{Option, none, some}
 use lib.ListN.{length-replicate, get_or-replicate}
@@ -13,7 +13,6 @@ use Rattle.graph.specs.Chains.{names, linked, reached_from}
 use Rattle.graph.proofs.BelowLaws.{any_in, any_out, any_same}
 use Rattle.graph.proofs.PathsLaws.{reached_law, cycle_law}
 use Rattle.walk.specs.TableGraph.{table_size, child_at, table_graph}
-use Rattle.walk.specs.Fold.{or_else}
 use Rattle.walk.specs.Marks.{finished}
 use Rattle.walk.proofs.Tables.{child-in}
 use Rattle.walk.proofs.Step.{get_d_tabulate}
@@ -29,14 +28,6 @@ looked_few n h = omega arith
 pub looked_most : (n : ℕ) → looked_at n ≤ library_limits.node_instances
 unfolding looked_at
 looked_most n = omega arith
-
--- The child is c, as the code tests it.
-child_test : {n x c : ℕ} (o : Option ℕ) → x ≡ or_else n o → c < n → eqb x c ≡ names o c
-child_test {n} {x} {c} none e h = rw e (ne_eqb n c (λ d. omega arith))
-child_test (some d) e h = rw e
-
-pub names_test : (n : ℕ) (ch : List ℕ) (k : ℕ) {x c : ℕ} → x ≡ or_else n (child_at n ch k) → c < n → eqb x c ≡ names (child_at n ch k) c
-names_test n ch k e h = child_test (child_at n ch k) e h
 
 named_below : {n j : ℕ} (o : Option ℕ) → ((d : ℕ) → o ≡ some d → d < n) → names o j ≡ true → j < n
 named_below none f e = clash e refl

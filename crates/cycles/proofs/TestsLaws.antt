@@ -1,14 +1,6 @@
 -- Further laws of tests of the numbers below n.
-use Rattle.std.proofs.Common.{◌≡◌, ℕ, zero, suc, ◌+◌, ◌<◌, Bool, false, ◌&&◌, eqb, sym, refl, ap, ◌∙◌, add-one, arith, eq-eqb, ne_eqb}
+use Rattle.std.proofs.Common.{◌≡◌, ℕ, zero, suc, ◌+◌, ◌<◌, Bool, false, sym, refl, ap, ◌∙◌, add-one, arith}
 use Rattle.graph.specs.Below.{any}
-
--- A number that is not k, and one that is.
-
-pub test_other : (x k : ℕ) (t : Bool) → (x ≡ k → ⊥) → false ≡ (eqb x k && t)
-test_other x k t h = rw (ne_eqb x k h)
-
-pub test_same : (x k : ℕ) {r : Bool} (t : Bool) → x ≡ k → r ≡ t → r ≡ (eqb x k && t)
-test_same x k t h e = rw (eq-eqb x k h) e
 
 pub any_none : (p : ℕ → Bool) → any 0 p ≡ false
 unfolding any

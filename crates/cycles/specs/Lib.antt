@@ -2,3 +2,4 @@
 pub mod Cycle
 pub mod Ranks
 pub mod Order
+pub mod Search

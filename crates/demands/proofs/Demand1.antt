@@ -1,4 +1,6 @@
 -- Demand 1 holds of the definition of isolation.
+use Rattle.std.specs.Prelude.{Result, Ok, Err}
+use Rattle.format.specs.declared.Refusal.{Refusal as CodeRefusal}
 use Prim.Native.Nat.{ℕ, ◌*◌, ◌/◌, ◌≤◌}
 use mathlib.Core.List.{List, ◌++◌}
 use mathlib.Core.Logic.{◌⊎◌, inl, inr, ⊎_elim}
@@ -11,7 +13,6 @@ use Rattle.limits.specs.Limits.{limits_of}
 use Rattle.format.specs.Lookup.{node_position}
 use Rattle.isolation.specs.ChipGraph.{chip_graph}
 use Rattle.format.proofs.NumberedLaws.{kind_some}
-use Rattle.isolation.specs.declared.Isolated.{Isolated}
 use Rattle.isolation.specs.declared.Isolation.{Isolation}
 use Rattle.isolation.specs.Outcome.{Outcome, refused_outcome, outcome_of, isolate}
 use Rattle.listing.specs.Records.{record_size, listing, records_of}
@@ -55,15 +56,15 @@ module _ (of : LimitSet) (file : List ℕ) (attention : ℕ) (words read list : 
       }
 
   -- What the contract of `isolation::isolate` allows keeps to it.
-  module _ (r : Isolated) (after : List ℕ) (promised : outcome_of r after ≡ isolate (limits_of of) file attention words read list) where
-    done-or_refused : (r : Isolated) → ((outcome_of r after).number ≡ 0) ⊎ RefusedCall list (outcome_of r after)
-        → ((i : Isolation) × (r ≡ Isolated.Done i)) ⊎ RefusedCall list (outcome_of r after)
-    done-or_refused (Isolated.Done i) e = inl (i, refl)
-    done-or_refused (Isolated.Refused x) e = ⊎_elim (λ z. absurd (omega (arith, z, kind_some x.kind))) (λ z. inr z) e
+  module _ (r : Result Isolation CodeRefusal) (after : List ℕ) (promised : outcome_of r after ≡ isolate (limits_of of) file attention words read list) where
+    done-or_refused : (r : Result Isolation CodeRefusal) → ((outcome_of r after).number ≡ 0) ⊎ RefusedCall list (outcome_of r after)
+        → ((i : Isolation) × (r ≡ Ok i)) ⊎ RefusedCall list (outcome_of r after)
+    done-or_refused (Ok i) e = inl (i, refl)
+    done-or_refused (Err x) e = ⊎_elim (λ z. absurd (omega (arith, z, kind_some x.kind))) (λ z. inr z) e
 
-    list-after : (r : Isolated) → (outcome_of r after).list ≡ after
-    list-after (Isolated.Done i) = refl
-    list-after (Isolated.Refused x) = refl
+    list-after : (r : Result Isolation CodeRefusal) → (outcome_of r after).list ≡ after
+    list-after (Ok i) = refl
+    list-after (Err x) = refl
 
     pub refuses : Refuses of file attention words read list r after
     refuses =

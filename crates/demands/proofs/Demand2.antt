@@ -7,7 +7,8 @@ use lib.ListN.{length}
 use Rattle.limits.specs.declared.LimitSet.{LimitSet}
 use Rattle.limits.specs.Limits.{limits_of}
 use Rattle.numbers.specs.BigEndian.{Bytes}
-use Rattle.format.specs.declared.Checked.{Checked}
+use Rattle.std.specs.Prelude.{Result, Ok, Err}
+use Rattle.format.specs.declared.Refusal.{Refusal}
 use Rattle.format.specs.declared.Summary.{Summary}
 use Rattle.format.specs.Parsed.{Parsed, done, refused}
 use Rattle.format.specs.Refusals.{checked_values}
@@ -60,12 +61,12 @@ module _ (of : LimitSet) (file : List ℕ) (bytes : Bytes file) where
       }
 
   -- What the contract of `reader::check` allows keeps to it.
-  module _ (r : Checked) (promised : checked_values r ≡ check (limits_of of) file) where
-    accepted_case : (r : Checked) → (checked_values r).number ≡ 0 → (s : Summary) × (r ≡ Checked.Accepted s)
-    accepted_case (Checked.Accepted s) e = (s, refl)
-    accepted_case (Checked.Refused x) e = absurd (omega (arith, e, kind_some x.kind))
+  module _ (r : Result Summary Refusal) (promised : checked_values r ≡ check (limits_of of) file) where
+    accepted_case : (r : Result Summary Refusal) → (checked_values r).number ≡ 0 → (s : Summary) × (r ≡ Ok s)
+    accepted_case (Ok s) e = (s, refl)
+    accepted_case (Err x) e = absurd (omega (arith, e, kind_some x.kind))
 
-    case_accepted : (s : Summary) → r ≡ Checked.Accepted s → (check (limits_of of) file).number ≡ 0
+    case_accepted : (s : Summary) → r ≡ Ok s → (check (limits_of of) file).number ≡ 0
     case_accepted s e = sym (ap (λ x. x.number) promised) ∙ ap (λ x. (checked_values x).number) e
 
     pub checks : Checks of file r

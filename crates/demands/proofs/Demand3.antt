@@ -1,4 +1,6 @@
 -- Demand 3 holds of the definition of isolation.
+use Rattle.std.specs.Prelude.{Result, Ok, Err}
+use Rattle.format.specs.declared.Refusal.{Refusal}
 use Prim.Native.Nat.{ℕ, ◌*◌, ◌/◌, ◌≤◌, ◌<◌}
 use mathlib.Core.Bool.{true, false}
 use mathlib.Core.List.{List, [], ◌∷◌, ◌++◌}
@@ -26,7 +28,6 @@ use Rattle.walk.specs.Marks.{mark_count, finished}
 use Rattle.walk.proofs.StepsLaws.{step_count}
 use Rattle.walk.proofs.WalkLaws.{steps_reached}
 use Rattle.isolation.specs.ChipGraph.{chip_graph}
-use Rattle.isolation.specs.declared.Isolated.{Isolated}
 use Rattle.isolation.specs.declared.Isolation.{Isolation}
 use Rattle.isolation.specs.Outcome.{done_outcome, outcome_of, reached_unread, isolate}
 use Rattle.isolation.specs.Readings.{readings_fit}
@@ -197,12 +198,12 @@ module _ (of : LimitSet) (file : List ℕ) (bytes : Bytes file) (attention : ℕ
       }
 
   -- What the contract of `isolation::isolate` allows keeps to it.
-  module _ (r : Isolated) (after : List ℕ) (promised : outcome_of r after ≡ isolate (limits_of of) file attention words read list) where
-    done_out : (r : Isolated) → (outcome_of r after).number ≡ 0 → (i : Isolation) × (r ≡ Isolated.Done i)
-    done_out (Isolated.Done i) e = (i, refl)
-    done_out (Isolated.Refused x) e = absurd (omega (arith, e, kind_some x.kind))
+  module _ (r : Result Isolation Refusal) (after : List ℕ) (promised : outcome_of r after ≡ isolate (limits_of of) file attention words read list) where
+    done_out : (r : Result Isolation Refusal) → (outcome_of r after).number ≡ 0 → (i : Isolation) × (r ≡ Ok i)
+    done_out (Ok i) e = (i, refl)
+    done_out (Err x) e = absurd (omega (arith, e, kind_some x.kind))
 
-    done_in : (i : Isolation) → r ≡ Isolated.Done i → (isolate (limits_of of) file attention words read list).number ≡ 0
+    done_in : (i : Isolation) → r ≡ Ok i → (isolate (limits_of of) file attention words read list).number ≡ 0
     done_in i e = sym (ap (λ o. o.number) promised) ∙ ap (λ x. (outcome_of x after).number) e
 
     pub isolates : Isolates of file attention words read list r after

@@ -1,8 +1,9 @@
 -- Demand 1 of the minutes, as far as it speaks of isolation's answer: over the definition of isolation, and over the answers of the code, by either set of limits. Of a board's answer: `Boards`.
+use Rattle.std.specs.Prelude.{Result, Ok}
+use Rattle.format.specs.declared.Refusal.{Refusal as CodeRefusal}
 use Rattle.std.specs.Prelude.{ℕ, ◌≤◌, List, ◌⊎◌, ◌≡◌, length}
 use Rattle.limits.specs.declared.LimitSet.{LimitSet}
 use Rattle.limits.specs.Limits.{limits_of}
-use Rattle.isolation.specs.declared.Isolated.{Isolated}
 use Rattle.isolation.specs.declared.Isolation.{Isolation}
 use Rattle.isolation.specs.Outcome.{Outcome, outcome_of, isolate}
 
@@ -29,7 +30,7 @@ pub record Demand1 (of : LimitSet) (file : List ℕ) (attention : ℕ) (words re
   pub sized : length (isolate (limits_of of) file attention words read list).list ≡ length list
 
 -- The same of an answer of `isolation::isolate` and the list after the call; and its number and place are those of the table, in the order of the table.
-pub record Refuses (of : LimitSet) (file : List ℕ) (attention : ℕ) (words read list : List ℕ) (r : Isolated) (after : List ℕ) : Type 0 where
+pub record Refuses (of : LimitSet) (file : List ℕ) (attention : ℕ) (words read list : List ℕ) (r : Result Isolation CodeRefusal) (after : List ℕ) : Type 0 where
   pub told : outcome_of r after ≡ isolate (limits_of of) file attention words read list
-  pub ends : ((i : Isolation) × (r ≡ Isolated.Done i)) ⊎ RefusedCall list (outcome_of r after)
+  pub ends : ((i : Isolation) × (r ≡ Ok i)) ⊎ RefusedCall list (outcome_of r after)
   pub sized : length after ≡ length list

@@ -2,7 +2,8 @@
 use Rattle.std.specs.Prelude.{ℕ, ◌≤◌, List, ◌↔◌, ◌≡◌}
 use Rattle.limits.specs.declared.LimitSet.{LimitSet}
 use Rattle.limits.specs.Limits.{limits_of}
-use Rattle.format.specs.declared.Checked.{Checked}
+use Rattle.std.specs.Prelude.{Result, Ok}
+use Rattle.format.specs.declared.Refusal.{Refusal}
 use Rattle.format.specs.declared.Summary.{Summary}
 use Rattle.format.specs.Encoding.{encode}
 use Rattle.format.specs.Parsed.{refused}
@@ -35,7 +36,7 @@ pub record Demand2 (of : LimitSet) (file : List ℕ) : Type 0 where
   pub refuses : ((c : Chip) → Accepted of file c → ⊥) → FirstRefusal of file (check (limits_of of) file)
 
 -- The same of an answer of `reader::check`.
-pub record Checks (of : LimitSet) (file : List ℕ) (r : Checked) : Type 0 where
-  pub accepts : ((s : Summary) × (r ≡ Checked.Accepted s)) ↔ ((c : Chip) × Accepted of file c)
+pub record Checks (of : LimitSet) (file : List ℕ) (r : Result Summary Refusal) : Type 0 where
+  pub accepts : ((s : Summary) × (r ≡ Ok s)) ↔ ((c : Chip) × Accepted of file c)
   pub summary : (c : Chip) → Accepted of file c → checked_values r ≡ counts_of c
   pub refuses : ((c : Chip) → Accepted of file c → ⊥) → FirstRefusal of file (checked_values r)

@@ -1,4 +1,6 @@
 -- Demand 3 of the minutes, over the definition of isolation and over the answers of the code, by either set of limits, in the words of document 01 ("The words of demand 3") and of document 02 (iii).
+use Rattle.std.specs.Prelude.{Result, Ok}
+use Rattle.format.specs.declared.Refusal.{Refusal}
 use Rattle.std.specs.Prelude.{ℕ, ◌*◌, ◌≤◌, ◌<◌, List, ◌++◌, [], ◌∷◌, ◌⊎◌, ◌↔◌, ◌≡◌, length, get_or, drop}
 use Rattle.limits.specs.declared.LimitSet.{LimitSet}
 use Rattle.limits.specs.Limits.{limits_of}
@@ -11,7 +13,6 @@ use Rattle.walk.specs.declared.Walked.{Walked}
 use Rattle.walk.specs.Steps.{StepCount}
 use Rattle.isolation.specs.ChipGraph.{chip_graph}
 use Rattle.isolation.specs.Outcome.{Outcome, outcome_of, isolate}
-use Rattle.isolation.specs.declared.Isolated.{Isolated}
 use Rattle.isolation.specs.declared.Isolation.{Isolation}
 use Rattle.listing.specs.Records.{records_of}
 use Rattle.demands.specs.Demand2.{Accepted}
@@ -102,6 +103,6 @@ module _ (of : LimitSet) (file : List ℕ) (attention : ℕ) (words read list : 
     pub answers : (p : Possible) → Answer p (isolate (limits_of of) file attention words read list)
 
   -- The same of an answer of `isolation::isolate` and the list after the call: it is `Done` exactly when isolation is possible, and then it is that answer.
-  pub record Isolates (r : Isolated) (after : List ℕ) : Type 0 where
-    pub succeeds : ((i : Isolation) × (r ≡ Isolated.Done i)) ↔ Possible
+  pub record Isolates (r : Result Isolation Refusal) (after : List ℕ) : Type 0 where
+    pub succeeds : ((i : Isolation) × (r ≡ Ok i)) ↔ Possible
     pub answers : (p : Possible) → Answer p (outcome_of r after)

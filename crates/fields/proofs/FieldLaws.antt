@@ -10,10 +10,8 @@ use lib.ListN.{length, take, drop, get_or, drop_of_length-le}
 use lib.Dec.{eqb}
 use lib.Seq.{drop-cons}
 use native.Mathlib.Numerals.{add-one}
-use Rattle.numbers.specs.declared.NumberRead.{NumberRead}
-use Rattle.numbers.specs.declared.ByteRead.{ByteRead}
 use Rattle.numbers.specs.BigEndian.{big_endian}
-use Rattle.numbers.specs.Field.{present, field, read_with, not_whole, number_values, byte_values, number_at}
+use Rattle.numbers.specs.Field.{present, field, read_with, not_whole, number_at}
 use Rattle.numbers.proofs.Bools.{or_right, and_both}
 use Rattle.numbers.proofs.FieldLaws.{field-byte, field_two, present_yes, present_no, read_means, cut_means}
 use Rattle.format.specs.Parsed.{done, refused, require}
@@ -30,19 +28,13 @@ module _ (s : List ℕ) (at w : ℕ) where
   unfolding field_at require
   absent e = rw (present_no s at w (cut_means s at w e))
 
-  pub number_there : {x : NumberRead} {v n : ℕ} → number_values at x ≡ number_at s at w → x ≡ NumberRead.Number v n → done v n ≡ field_at s at w
-  number_there e g = there (sym (ap (number_values at) g) ∙ e)
+  pub field_there_read : {v n : ℕ} → read_with v n ≡ number_at s at w → done v n ≡ field_at s at w
+  field_there_read e = there e
 
-  pub number_absent : {x : NumberRead} → number_values at x ≡ number_at s at w → x ≡ NumberRead.Cut → refused 2 at ≡ field_at s at w
-  number_absent e g = absent (sym (ap (number_values at) g) ∙ e)
+  pub field_cut_read : not_whole at ≡ number_at s at w → refused 2 at ≡ field_at s at w
+  field_cut_read e = absent e
 
-  pub byte_there : {x : ByteRead} {v n : ℕ} → byte_values at x ≡ number_at s at w → x ≡ ByteRead.Byte v n → done v n ≡ field_at s at w
-  byte_there e g = there (sym (ap (byte_values at) g) ∙ e)
-
-  pub byte_absent : {x : ByteRead} → byte_values at x ≡ number_at s at w → x ≡ ByteRead.Cut → refused 2 at ≡ field_at s at w
-  byte_absent e g = absent (sym (ap (byte_values at) g) ∙ e)
-
-pub ruleset field_laws = (byte_there, byte_absent, number_there, number_absent)
+pub ruleset field_laws = (field_there_read, field_cut_read)
 
 -- Which values are known.
 pub type_one : (t : ℕ) → t ≡ 1 → known_type t ≡ true

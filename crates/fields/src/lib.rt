@@ -81,10 +81,9 @@ pub enum RisingCount {
 pub fn byte_at(s: &[u8], at: usize) -> ByteRead
     ensures { byte_parsed result ≡ field_at s.now at 1 }
 {
-    let b = numbers::byte_at(s, at);
-    match b {
-        numbers::ByteRead::Byte(value, next) => ByteRead::Byte(value, next),
-        numbers::ByteRead::Cut => ByteRead::Refused(Refusal {
+    match numbers::byte_at(s, at) {
+        Some((value, next)) => ByteRead::Byte(value, next),
+        None => ByteRead::Refused(Refusal {
             kind: Kind::FieldCut,
             place: at,
         }),
@@ -95,10 +94,9 @@ pub fn byte_at(s: &[u8], at: usize) -> ByteRead
 pub fn number_at(s: &[u8], at: usize, w: Width) -> NumberRead
     ensures { number_parsed result ≡ field_at s.now at (size_of w) }
 {
-    let n = numbers::number_at(s, at, w);
-    match n {
-        numbers::NumberRead::Number(value, next) => NumberRead::Number(value, next),
-        numbers::NumberRead::Cut => NumberRead::Refused(Refusal {
+    match numbers::number_at(s, at, w) {
+        Some((value, next)) => NumberRead::Number(value, next),
+        None => NumberRead::Refused(Refusal {
             kind: Kind::FieldCut,
             place: at,
         }),

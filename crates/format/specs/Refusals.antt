@@ -1,8 +1,9 @@
 -- Document 01, "Numbers the operator sees": the number of each kind, and the values of each answer.
-use Rattle.std.specs.Prelude.{ℕ}
+use Rattle.std.specs.Prelude.{ℕ, Result, Ok, Err}
 use Rattle.format.specs.declared.Kind.{Kind}
 use Rattle.format.specs.declared.Kind.TheVariants.{FileTooLong, FieldCut, WrongKeyword, WrongVersion, ZeroCount, UnknownValue, Duplicate, TooManyInstances, BadExpression, BitTooHigh, BytesAfterEnd, NameAbsent, RegisterUnfit, ChildCycle, BadAttentionType, NoRoot, ReadingsUnfit, RegisterUnread, NoRoom, BoardUnfit, RecordNotAllowed, OutputTooShort, TableTooShort}
-use Rattle.format.specs.declared.Checked.{Checked}
+use Rattle.format.specs.declared.Refusal.{Refusal}
+use Rattle.format.specs.declared.Summary.{Summary}
 use Rattle.format.specs.declared.Address.{Address}
 
 -- The table's first column, with 20 of document 02 (vi), 40 and 41 of (ii); and 43, which is ours: a table that a caller lent for a file is too short for it.
@@ -50,10 +51,10 @@ abbrev pub refused_with : ℕ → ℕ → CheckValues
 refused_with n p =
     record { number = n; place = p; model = 0; registers = 0; register_instances = 0; nodes = 0; node_instances = 0; roots = 0 }
 
-abbrev pub checked_values : Checked → CheckValues
-checked_values (Checked.Accepted s) =
+abbrev pub checked_values : Result Summary Refusal → CheckValues
+checked_values (Ok s) =
     accepted_with s.model s.registers s.register_instances s.nodes s.node_instances s.roots
-checked_values (Checked.Refused r) = refused_with (number_of r.kind) r.place
+checked_values (Err r) = refused_with (number_of r.kind) r.place
 
 -- The address query's answer in the paper's numbers: the address's offset and size, or a refusal.
 pub record AddressValues : Type 0 where
@@ -62,6 +63,6 @@ pub record AddressValues : Type 0 where
   pub offset : ℕ
   pub size : ℕ
 
-abbrev pub address_values : Address → AddressValues
-address_values (Address.At o n) = record { number = 0; place = 0; offset = o; size = n }
-address_values (Address.Refused r) = record { number = number_of r.kind; place = r.place; offset = 0; size = 0 }
+abbrev pub address_values : Result Address Refusal → AddressValues
+address_values (Ok a) = record { number = 0; place = 0; offset = a.place; size = a.size }
+address_values (Err r) = record { number = number_of r.kind; place = r.place; offset = 0; size = 0 }

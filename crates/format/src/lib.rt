@@ -59,18 +59,11 @@ pub struct Summary {
     pub roots: usize,
 }
 
-// The checker's answer.
+// Where an address stands in a file, and its size in bytes.
 #[derive(Clone, Copy)]
-pub enum Checked {
-    Accepted(Summary),
-    Refused(Refusal),
-}
-
-// The address query's answer: the address's place in the file and its size in bytes.
-#[derive(Clone, Copy)]
-pub enum Address {
-    At(usize, usize),
-    Refused(Refusal),
+pub struct Address {
+    pub place: usize,
+    pub size: usize,
 }
 
 // The number of a refusal.

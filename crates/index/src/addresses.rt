@@ -80,10 +80,10 @@ fn head_at(s: &[u8], at: usize) -> Head
 }
 
 // The answer where there is no such register instance.
-fn absent() -> Address
+fn absent() -> Result<Address, Refusal>
     ensures { address_values result ≡ address_in [] }
 {
-    Address::Refused(Refusal {
+    Err(Refusal {
         kind: Kind::NameAbsent,
         place: 0,
     })
@@ -100,7 +100,7 @@ fn address_size(kind: u8) -> usize
 }
 
 // The address of the instance of that number, of a register that was read before. It reads each instance once, up to that one.
-fn instance_address(s: &[u8], h: Head, number: u8) -> Address
+fn instance_address(s: &[u8], h: Head, number: u8) -> Result<Address, Refusal>
     ensures { (limit total flags : ℕ) (is : List RegisterInstance) (m : ℕ)
         → row_at (register_instance_at limit s.now true total h.kind) h.count [] h.next ≡ done is m
         → address_values result ≡ address_among h.id number (entries_of (register_of h.id h.kind flags is)) }
@@ -111,7 +111,10 @@ fn instance_address(s: &[u8], h: Head, number: u8) -> Address
     while 0 < left {
         let i = instance_at(s, place, kind);
         if i.number == number {
-            return Address::At(i.place, address_size(kind));
+            return Ok(Address {
+                place: i.place,
+                size: address_size(kind),
+            });
         }
         place = i.next;
         left -= 1;
@@ -120,7 +123,7 @@ fn instance_address(s: &[u8], h: Head, number: u8) -> Address
 }
 
 // The address of the instance of that ID and number, if it is one of a register that was read before. It looks at no instance of a register with another ID.
-fn register_address(s: &[u8], h: Head, id: u64, number: u8) -> Address
+fn register_address(s: &[u8], h: Head, id: u64, number: u8) -> Result<Address, Refusal>
     ensures { (limit total flags : ℕ) (is : List RegisterInstance) (m : ℕ)
         → row_at (register_instance_at limit s.now true total h.kind) h.count [] h.next ≡ done is m
         → address_values result ≡ address_among id number (entries_of (register_of h.id h.kind flags is)) }
@@ -159,7 +162,7 @@ fn after_instances(s: &[u8], h: Head) -> usize
 }
 
 // The address of the instance of that ID and number among those of so many registers that were read before. It reads the head of each, up to the one that is sought.
-fn row_address(s: &[u8], from: usize, n: u64, id: u64, number: u8) -> Address
+fn row_address(s: &[u8], from: usize, n: u64, id: u64, number: u8) -> Result<Address, Refusal>
     ensures { (limit : ℕ) (rs : List Register) (m : ℕ)
         → row_at (register_at limit s.now true) n [] from ≡ done rs m
         → address_values result ≡ address_among id number (gathered entries_of rs) }
@@ -170,10 +173,10 @@ fn row_address(s: &[u8], from: usize, n: u64, id: u64, number: u8) -> Address
         let h = head_at(s, place);
         let a = register_address(s, h, id, number);
         match a {
-            Address::At(offset, size) => {
-                return Address::At(offset, size);
+            Ok(found) => {
+                return Ok(found);
             }
-            Address::Refused(_) => {
+            Err(_) => {
                 place = after_instances(s, h);
             }
         }
@@ -184,7 +187,7 @@ fn row_address(s: &[u8], from: usize, n: u64, id: u64, number: u8) -> Address
 
 // The address of the instance of that ID and number in a registers section that was read before: its place and its size; or refusal 12 at 0 where no register has such an instance.
 // It walks over the section once, up to the instance that is sought, and keeps no table.
-pub fn find_address(s: &[u8], from: usize, id: u64, number: u8) -> Address
+pub fn find_address(s: &[u8], from: usize, id: u64, number: u8) -> Result<Address, Refusal>
     ensures { (limit : ℕ) (rs : List Register) (m : ℕ)
         → registers_at limit s.now true from ≡ done rs m
         → address_values result ≡ address_in (at (position (register_named id number) (gathered entries_of rs)) (gathered entries_of rs)) }

@@ -1,4 +1,5 @@
 -- Isolation by tables that the reader fills: room, and the answer of a class of tables.
+use Rattle.std.specs.Prelude.{Result, Ok, Err}
 use Prim.Native.Nat.{ℕ, ◌*◌, ◌≤◌, ◌<◌}
 use mathlib.Core.Bool.{Bool, true, false, cond, not, ◌&&◌}
 use mathlib.Core.List.{List}
@@ -24,7 +25,7 @@ use Rattle.reader.specs.Examined.{Lengths, lengths_of, room_for, Examined}
 use Rattle.reader.specs.Layout.{layout_parsed, layout_values}
 use Rattle.reader.proofs.ClassesLaws.{class_lengths, full_room}
 use Rattle.reader.proofs.ExaminedLaws.{roomy, room_laid, done_room, refused_room}
-use Rattle.isolation.specs.declared.Isolated.{Isolated}
+use Rattle.isolation.specs.declared.Isolation.{Isolation}
 use Rattle.isolation.specs.Outcome.{Outcome, refused_outcome, outcome_of, is_exact, isolate}
 use Rattle.isolation.specs.Ready.{Tabled, both_fit, tables_fit, room_in}
 use Rattle.isolation.proofs.OutcomeLaws.{outcome_cases, succeeds_in}
@@ -154,15 +155,15 @@ class_outcome limits k file {o} x s e =
     ∙ ap (λ t. cond (room_for limits t file) x s) (class_lengths k)
 
 -- An answer of a class that is not 43 is exact; after 43 the list is as it was.
-module _ (limits : Limits) (r : Isolated) (t : Lengths) (file : List ℕ) (after list : List ℕ) (x : Outcome) (is : outcome_of r after ≡ cond (room_for limits t file) x (refused_outcome 43 0 list)) where
+module _ (limits : Limits) (r : Result Isolation Refusal) (t : Lengths) (file : List ℕ) (after list : List ℕ) (x : Outcome) (is : outcome_of r after ≡ cond (room_for limits t file) x (refused_outcome 43 0 list)) where
   pub class_exact : is_exact r ≡ true → outcome_of r after ≡ x
   unfolding is_exact
   class_exact h = go r (room_for limits t file) is h
     where
-      go : (r : Isolated) (b : Bool) → outcome_of r after ≡ cond b x (refused_outcome 43 0 list) → is_exact r ≡ true → outcome_of r after ≡ x
+      go : (r : Result Isolation Refusal) (b : Bool) → outcome_of r after ≡ cond b x (refused_outcome 43 0 list) → is_exact r ≡ true → outcome_of r after ≡ x
       go r true e h = e
-      go (Isolated.Done i) false e h = let z : ◌≡◌ {A = ℕ} 0 43 = ap (λ o. o.number) e in absurd (omega arith)
-      go (Isolated.Refused y) false e h = clash h (ap not (eq-eqb _ 43 (ap (λ o. o.number) e)))
+      go (Ok i) false e h = let z : ◌≡◌ {A = ℕ} 0 43 = ap (λ o. o.number) e in absurd (omega arith)
+      go (Err y) false e h = clash h (ap not (eq-eqb _ 43 (ap (λ o. o.number) e)))
 
   pub class_kept : (x.number ≡ 43 → ⊥) → is_exact r ≡ false → after ≡ list
   unfolding is_exact
@@ -172,10 +173,10 @@ module _ (limits : Limits) (r : Isolated) (t : Lengths) (file : List ℕ) (after
       shorter true e = refl
       shorter false e = sym e
 
-      go : (r : Isolated) (b : Bool) → outcome_of r after ≡ cond b x (refused_outcome 43 0 list) → is_exact r ≡ false → after ≡ list
-      go (Isolated.Done i) b e h = clash refl h
-      go (Isolated.Refused y) true e h = absurd (n (sym (ap (λ o. o.number) e) ∙ eqb-true _ 43 (shorter (eqb (number_of y.kind) 43) h)))
-      go (Isolated.Refused y) false e h = ap (λ o. o.list) e
+      go : (r : Result Isolation Refusal) (b : Bool) → outcome_of r after ≡ cond b x (refused_outcome 43 0 list) → is_exact r ≡ false → after ≡ list
+      go (Ok i) b e h = clash refl h
+      go (Err y) true e h = absurd (n (sym (ap (λ o. o.number) e) ∙ eqb-true _ 43 (shorter (eqb (number_of y.kind) 43) h)))
+      go (Err y) false e h = ap (λ o. o.list) e
 
 -- A class for as many instances as the limits let a file have never is too short.
 pub full_outcome : (limits : Limits) (k : Class) → limits.register_instances ≤ k.registers → limits.node_instances ≤ k.nodes → (file : List ℕ) → Bytes file → {o : Outcome} (x s : Outcome)

@@ -1,4 +1,6 @@
 -- What the code finds, as rows of two tables: parts of tables, classes of tables, and the answer by a list.
+use Rattle.std.specs.Prelude.{Result, Ok, Err}
+use Rattle.format.specs.declared.Refusal.{Refusal}
 use Prim.Native.Nat.{ℕ, ◌*◌, ◌≤◌}
 use mathlib.Core.Bool.{Bool, true, false, cond, not, ◌&&◌}
 use mathlib.Core.List.{List, ◌++◌}
@@ -19,7 +21,7 @@ use Rattle.format.specs.Parsed.{Parsed, done, refused}
 use Rattle.reader.proofs.ClassesLaws.{full_room}
 use Rattle.reader.proofs.ExaminedLaws.{roomy}
 use Rattle.listing.specs.Rows.{first_rows}
-use Rattle.isolation.specs.declared.Found.{Found}
+use Rattle.isolation.specs.declared.Kept.{Kept}
 use Rattle.isolation.specs.Outcome.{Outcome, refused_outcome, Findings, stopped, find, in_list}
 use Rattle.isolation.specs.Ready.{room_in}
 use Rattle.isolation.specs.Rows.{found_of, RowsWithin, is_found, lent_room}
@@ -27,30 +29,30 @@ use Rattle.isolation.proofs.OutcomeLaws.{stopped_number, found-not_stopped, find
 
 -- Rows within tables
 
-pub within_same : (f : Found) (heads words : List ℕ) (heads' words' : List ℕ) → length heads' ≡ length heads → length words' ≡ length words → RowsWithin f heads words → RowsWithin f heads' words'
-within_same (Found.Rows k) heads words heads' words' a b h = (h.0, omega (arith, h.1, a), omega (arith, h.2, b))
-within_same (Found.Refused r) heads words heads' words' a b h = tt
+pub within_same : (f : Result Kept Refusal) (heads words : List ℕ) (heads' words' : List ℕ) → length heads' ≡ length heads → length words' ≡ length words → RowsWithin f heads words → RowsWithin f heads' words'
+within_same (Ok k) heads words heads' words' a b h = (h.0, omega (arith, h.1, a), omega (arith, h.2, b))
+within_same (Err r) heads words heads' words' a b h = tt
 
 -- Rows of the front of two tables.
-module _ (f : Found) (heads words : List ℕ) (n : ℕ) (in_heads : n ≤ length heads) (in_words_lem : n ≤ length words) (h : RowsWithin f (take n heads) (take n words)) where
+module _ (f : Result Kept Refusal) (heads words : List ℕ) (n : ℕ) (in_heads : n ≤ length heads) (in_words_lem : n ≤ length words) (h : RowsWithin f (take n heads) (take n words)) where
   pub cut_within : RowsWithin f heads words
   cut_within = go f h
     where
-      go : (f : Found) → RowsWithin f (take n heads) (take n words) → RowsWithin f heads words
-      go (Found.Rows k) w = (w.0, omega (arith, w.1, length-take-le n heads in_heads), omega (arith, w.2, length-take-le n words in_words_lem))
-      go (Found.Refused r) w = tt
+      go : (f : Result Kept Refusal) → RowsWithin f (take n heads) (take n words) → RowsWithin f heads words
+      go (Ok k) w = (w.0, omega (arith, w.1, length-take-le n heads in_heads), omega (arith, w.2, length-take-le n words in_words_lem))
+      go (Err r) w = tt
 
   pub cut_found : (attention : ℕ) (front back : List ℕ) → length (front ++ drop n heads) ≡ length heads → length (back ++ drop n words) ≡ length words → {x : Findings}
       → found_of attention f front back ≡ x → found_of attention f (front ++ drop n heads) (back ++ drop n words) ≡ x
   unfolding first_rows
   cut_found attention front back a b = go f h
     where
-      go : (f : Found) → RowsWithin f (take n heads) (take n words) → {x : Findings} → found_of attention f front back ≡ x → found_of attention f (front ++ drop n heads) (back ++ drop n words) ≡ x
-      go (Found.Rows k) w e =
+      go : (f : Result Kept Refusal) → RowsWithin f (take n heads) (take n words) → {x : Findings} → found_of attention f front back ≡ x → found_of attention f (front ++ drop n heads) (back ++ drop n words) ≡ x
+      go (Ok k) w e =
           let i : k.rows ≤ length front = omega (arith, w.1, length-take-le n heads in_heads, a, length-append front (drop n heads), length-drop n heads) in
           let j : k.rows ≤ length back = omega (arith, w.2, length-take-le n words in_words_lem, b, length-append back (drop n words), length-drop n words) in
           rw (take-append-le k.rows front (drop n heads) i, take-append-le k.rows back (drop n words) j) e
-      go (Found.Refused r) w e = e
+      go (Err r) w e = e
 
 -- The answer by a list
 
@@ -85,11 +87,11 @@ pub own_answered : (limits : Limits) (k : Class) (file list : List ℕ) (x : Fin
 own_answered limits k file list x e d = answered (room_for limits (class_room k) file) list x (e ∙ ap (λ b. cond b x (stopped 43 0)) (own_room limits k file)) d
 
 -- What is not 43 is exact.
-pub class_exact : (attention : ℕ) (f : Found) (heads words : List ℕ) (b : Bool) (x : Findings) → found_of attention f heads words ≡ cond b x (stopped 43 0) → is_found f ≡ true → found_of attention f heads words ≡ x
+pub class_exact : (attention : ℕ) (f : Result Kept Refusal) (heads words : List ℕ) (b : Bool) (x : Findings) → found_of attention f heads words ≡ cond b x (stopped 43 0) → is_found f ≡ true → found_of attention f heads words ≡ x
 unfolding is_found
 class_exact attention f heads words true x e h = e
-class_exact attention (Found.Rows k) heads words false x e h = absurd (found-not_stopped e)
-class_exact attention (Found.Refused r) heads words false x e h = clash h (ap not (eq-eqb _ 43 (stopped_number e)))
+class_exact attention (Ok k) heads words false x e h = absurd (found-not_stopped e)
+class_exact attention (Err r) heads words false x e h = clash h (ap not (eq-eqb _ 43 (stopped_number e)))
 
 -- A file's findings are never 43.
 pub find_number : (limits : Limits) (slot : ℕ) (file : List ℕ) (attention : ℕ) (words read : List ℕ) {p : ℕ} → stopped 43 p ≡ find limits slot file attention words read → ⊥
@@ -99,11 +101,11 @@ find_number limits slot file attention words read e =
     (λ s. found-not_stopped (sym (finds_in limits file attention words read slot s) ∙ sym e))
     (find_cases limits file attention words read slot)
 
-pub exact_found : (limits : Limits) (slot : ℕ) (file : List ℕ) (attention : ℕ) (words read : List ℕ) (f : Found) (heads rows : List ℕ)
+pub exact_found : (limits : Limits) (slot : ℕ) (file : List ℕ) (attention : ℕ) (words read : List ℕ) (f : Result Kept Refusal) (heads rows : List ℕ)
     → found_of attention f heads rows ≡ find limits slot file attention words read → is_found f ≡ true
 unfolding is_found
-exact_found limits slot file attention words read (Found.Rows k) heads rows e = refl
-exact_found limits slot file attention words read (Found.Refused r) heads rows e =
+exact_found limits slot file attention words read (Ok k) heads rows e = refl
+exact_found limits slot file attention words read (Err r) heads rows e =
     ap not (ne_eqb _ 43 (λ z. find_number limits slot file attention words read (ap (λ n. stopped n r.place) (sym z) ∙ e)))
 
 -- The full class has room for every file where the lent tables have.
@@ -122,7 +124,7 @@ full_found file bytes places unread a b =
     ap (λ t. t && room_for library_limits (lent_room full places) file) (le-leb _ _ b)
     ∙ lent-room places a (whole_at library_limits file) (full_room library_limits full (omega arith) (omega arith) file bytes)
 
-pub full_enough : (file : List ℕ) → Bytes file → (slot attention : ℕ) (words read : List ℕ) (f : Found) (heads rows : List ℕ) {places unread : ℕ}
+pub full_enough : (file : List ℕ) → Bytes file → (slot attention : ℕ) (words read : List ℕ) (f : Result Kept Refusal) (heads rows : List ℕ) {places unread : ℕ}
     → library_limits.node_instances ≤ places → library_limits.node_instances ≤ unread
     → found_of attention f heads rows ≡ cond (room_in library_limits (lent_room full places) unread file) (find library_limits slot file attention words read) (stopped 43 0)
     → is_found f ≡ true

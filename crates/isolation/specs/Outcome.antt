@@ -1,4 +1,6 @@
 -- The whole answer of isolation: number and place, or records and steps; and the list's bytes after the call.
+use Rattle.std.specs.Prelude.{Result, Ok, Err}
+use Rattle.format.specs.declared.Refusal.{Refusal}
 use Rattle.std.specs.Prelude.{ℕ, ◌*◌, ◌/◌, Bool, true, cond, not, List, [], ◌∷◌, ◌++◌, eqb, leb, length, drop}
 use Rattle.graph.specs.Chains.{Graph, below, reached_from, reached_count}
 use Rattle.limits.specs.Limits.{Limits}
@@ -9,7 +11,7 @@ use Rattle.format.specs.References.{Fault}
 use Rattle.format.specs.Refusals.{number_of}
 use Rattle.format.specs.Tree.{Root, Chip}
 use Rattle.format.specs.Verdict.{verdict}
-use Rattle.isolation.specs.declared.Isolated.{Isolated}
+use Rattle.isolation.specs.declared.Isolation.{Isolation}
 use Rattle.isolation.specs.Readings.{readings_fit}
 use Rattle.format.specs.Finding.{rule_for, root_for}
 use Rattle.isolation.specs.ChipGraph.{rule_unread, chip_graph}
@@ -30,14 +32,14 @@ abbrev pub done_outcome : ℕ → ℕ → List ℕ → Outcome
 done_outcome r s list = record { number = 0; place = 0; records = r; steps = s; list = list }
 
 -- The paper's values of the code's answer, with what the list holds after the call.
-abbrev pub outcome_of : Isolated → List ℕ → Outcome
-outcome_of (Isolated.Done i) list = done_outcome i.records i.steps list
-outcome_of (Isolated.Refused r) list = refused_outcome (number_of r.kind) r.place list
+abbrev pub outcome_of : Result Isolation Refusal → List ℕ → Outcome
+outcome_of (Ok i) list = done_outcome i.records i.steps list
+outcome_of (Err r) list = refused_outcome (number_of r.kind) r.place list
 
 -- An answer that is not 43, which says that a table of the code was too short.
-unfoldable pub is_exact : Isolated → Bool
-is_exact (Isolated.Done i) = true
-is_exact (Isolated.Refused r) = not (eqb (number_of r.kind) 43)
+unfoldable pub is_exact : Result Isolation Refusal → Bool
+is_exact (Ok i) = true
+is_exact (Err r) = not (eqb (number_of r.kind) 43)
 
 -- 18: "a reached instance's wanted rule names an unread register": all of these, instances in file order.
 unfoldable pub entry_unread : Chip → ℕ → List ℕ → NodeEntry → List Fault

@@ -12,7 +12,7 @@ ghost use Rattle.isolation.specs.Ready.{Tabled, Ready, both_fit, tables_fit};
 use crate::active::{first_unread, readings_fit};
 use crate::reach::reach;
 use crate::written::write_found;
-use crate::{Found, Isolated, Kept};
+use crate::{Isolation, Kept};
 use format::{Kind, Refusal, number};
 use listing::keep_list;
 use reader::Layout;
@@ -34,7 +34,7 @@ fn settle(
     children: &[u16],
     active: &mut [u64],
     unread: &mut [u64],
-) -> Found
+) -> Result<Kept, Refusal>
     requires { (length active.old ≡ length places.old) × (length unread.old ≡ length places.old) }
     ensures unread_after { (of : LimitSet) (t : Ready of file.now attention words.now read.now keys.now index.now nodes.now places.old children.now root)
         → model ≡ t.tabled.chip.model
@@ -48,13 +48,13 @@ fn settle(
     let steps = w.steps;
     let u = first_unread(&marks, unread, places.len());
     if u != 0 {
-        return Found::Refused(Refusal {
+        return Err(Refusal {
             kind: Kind::RegisterUnread,
             place: u,
         });
     }
     let rows = keep_list(places, unread, model, slot, nodes, &marks, active, children);
-    Found::Rows(Kept { rows, steps })
+    Ok(Kept { rows, steps })
 }
 
 // Refusals 15 to 18, or the rows of the listed bits, by the tables of an accepted file. `active` and `unread` take what its rules give; then `places` takes the heads of the rows and `unread` their words.
@@ -73,7 +73,7 @@ fn by_tables(
     children: &[u16],
     active: &mut [u64],
     unread: &mut [u64],
-) -> Found
+) -> Result<Kept, Refusal>
     requires { (length active.old ≡ length places.old) × (length unread.old ≡ length places.old) }
     ensures unread_after { (of : LimitSet) (t : Tabled of file.now keys.now index.now nodes.now places.old children.now)
         → model ≡ t.chip.model
@@ -82,20 +82,20 @@ fn by_tables(
     ensures rows_within { RowsWithin result places.old unread.old }
 {
     if attention < 1 {
-        return Found::Refused(Refusal {
+        return Err(Refusal {
             kind: Kind::BadAttentionType,
             place: 0,
         });
     }
     if 5 < attention {
-        return Found::Refused(Refusal {
+        return Err(Refusal {
             kind: Kind::BadAttentionType,
             place: 0,
         });
     }
     let root = wanted_root(file, roots_at, attention, nodes);
     if nodes.len() <= root {
-        return Found::Refused(Refusal {
+        return Err(Refusal {
             kind: Kind::NoRoot,
             place: 0,
         });
@@ -106,7 +106,7 @@ fn by_tables(
             active, unread,
         );
     }
-    Found::Refused(Refusal {
+    Err(Refusal {
         kind: Kind::ReadingsUnfit,
         place: 0,
     })
@@ -154,7 +154,7 @@ pub fn find_by(
     children: &[u16],
     active: &mut [u64],
     unread: &mut [u64],
-) -> Found
+) -> Result<Kept, Refusal>
     ensures unread_after { (of : LimitSet)
         → Examined of file.now l keys.now index.now nodes.now places.old children.now
         → found_of attention result places.new unread.new ≡ cond (both_fit l.node_instances (length active.old) (length unread.old))
@@ -190,7 +190,7 @@ pub fn find_by(
             &mut unread[..n],
         );
     }
-    Found::Refused(Refusal {
+    Err(Refusal {
         kind: Kind::TableTooShort,
         place: 0,
     })
@@ -211,7 +211,7 @@ pub fn answer(
     children: &[u16],
     active: &mut [u64],
     unread: &mut [u64],
-) -> Isolated
+) -> Result<Isolation, Refusal>
     ensures { (of : LimitSet)
         → Examined of file.now l keys.now index.now nodes.now places.old children.now
         → outcome_of result list.new ≡ cond (both_fit l.node_instances (length active.old) (length unread.old))
@@ -225,12 +225,12 @@ pub fn answer(
 }
 
 // Whether what was found is not that a table was too short.
-pub fn is_found(r: Found) -> bool
+pub fn is_found(r: Result<Kept, Refusal>) -> bool
     ensures { result ≡ is_found r }
 {
     match r {
-        Found::Rows(_) => true,
-        Found::Refused(x) => {
+        Ok(_) => true,
+        Err(x) => {
             let kind = x.kind;
             number(kind) != 43
         }
@@ -238,12 +238,12 @@ pub fn is_found(r: Found) -> bool
 }
 
 // Whether an answer is not that a table was too short.
-pub fn is_exact(r: Isolated) -> bool
+pub fn is_exact(r: Result<Isolation, Refusal>) -> bool
     ensures { result ≡ is_exact r }
 {
     match r {
-        Isolated::Done(_) => true,
-        Isolated::Refused(x) => {
+        Ok(_) => true,
+        Err(x) => {
             let kind = x.kind;
             number(kind) != 43
         }

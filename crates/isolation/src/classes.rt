@@ -10,7 +10,7 @@ ghost use Rattle.isolation.specs.Ready.{room_in};
 
 use crate::answer::{find_by, is_exact, is_found};
 use crate::written::write_found;
-use crate::{Found, Isolated};
+use crate::{Isolation, Kept};
 use format::{Kind, Refusal};
 use limits::LimitSet;
 use limits::classes::{
@@ -36,7 +36,7 @@ fn find_in(
     node_index: &mut [u16],
     child: &mut [u16],
     unread: &mut [u64],
-) -> Found
+) -> Result<Kept, Refusal>
     ensures unread_after { found_of attention result places.new unread.new
         ≡ cond (room_in library_limits (lengths_of keys.old kinds.old names.old wanted.old places.old child.old) (length unread.old) file.now)
         (find library_limits slot file.now attention words.now read.now)
@@ -44,7 +44,7 @@ fn find_in(
     ensures rows_within { RowsWithin result places.old unread.old }
 {
     if unread.len() < names.len() {
-        return Found::Refused(Refusal {
+        return Err(Refusal {
             kind: Kind::TableTooShort,
             place: 0,
         });
@@ -67,7 +67,7 @@ fn find_in(
             file, l, slot, attention, words, read, index, keys, names, places, child, wanted,
             unread,
         ),
-        LayoutRead::Refused(r) => Found::Refused(r),
+        LayoutRead::Refused(r) => Err(r),
     }
 }
 
@@ -80,7 +80,7 @@ fn find_small(
     read: &[u8],
     places: &mut [u64],
     unread: &mut [u64],
-) -> Found
+) -> Result<Kept, Refusal>
     ensures unread_after { found_of attention result places.new unread.new
         ≡ cond (room_in library_limits (lent_room small (length places.old)) (length unread.old) file.now)
         (find library_limits slot file.now attention words.now read.now)
@@ -121,7 +121,7 @@ fn find_middle(
     read: &[u8],
     places: &mut [u64],
     unread: &mut [u64],
-) -> Found
+) -> Result<Kept, Refusal>
     ensures unread_after { found_of attention result places.new unread.new
         ≡ cond (room_in library_limits (lent_room middle (length places.old)) (length unread.old) file.now)
         (find library_limits slot file.now attention words.now read.now)
@@ -162,7 +162,7 @@ fn find_large(
     read: &[u8],
     places: &mut [u64],
     unread: &mut [u64],
-) -> Found
+) -> Result<Kept, Refusal>
     ensures unread_after { found_of attention result places.new unread.new
         ≡ cond (room_in library_limits (lent_room large (length places.old)) (length unread.old) file.now)
         (find library_limits slot file.now attention words.now read.now)
@@ -203,7 +203,7 @@ fn find_full(
     read: &[u8],
     places: &mut [u64],
     unread: &mut [u64],
-) -> Found
+) -> Result<Kept, Refusal>
     ensures unread_after { found_of attention result places.new unread.new
         ≡ cond (room_in library_limits (lent_room full (length places.old)) (length unread.old) file.now)
         (find library_limits slot file.now attention words.now read.now)
@@ -242,7 +242,7 @@ fn isolate_small(
     words: &[u64],
     read: &[u8],
     list: &mut [u8],
-) -> Isolated
+) -> Result<Isolation, Refusal>
     ensures { outcome_of result list.new
         ≡ cond (room_for library_limits (class_room small) file.now)
         (isolate library_limits file.now attention words.now read.now list.old)
@@ -261,7 +261,7 @@ fn isolate_middle(
     words: &[u64],
     read: &[u8],
     list: &mut [u8],
-) -> Isolated
+) -> Result<Isolation, Refusal>
     ensures { outcome_of result list.new
         ≡ cond (room_for library_limits (class_room middle) file.now)
         (isolate library_limits file.now attention words.now read.now list.old)
@@ -280,7 +280,7 @@ fn isolate_large(
     words: &[u64],
     read: &[u8],
     list: &mut [u8],
-) -> Isolated
+) -> Result<Isolation, Refusal>
     ensures { outcome_of result list.new
         ≡ cond (room_for library_limits (class_room large) file.now)
         (isolate library_limits file.now attention words.now read.now list.old)
@@ -293,7 +293,13 @@ fn isolate_large(
 }
 
 // With those of the full one.
-fn isolate_full(file: &[u8], attention: u8, words: &[u64], read: &[u8], list: &mut [u8]) -> Isolated
+fn isolate_full(
+    file: &[u8],
+    attention: u8,
+    words: &[u64],
+    read: &[u8],
+    list: &mut [u8],
+) -> Result<Isolation, Refusal>
     ensures { outcome_of result list.new
         ≡ cond (room_for library_limits (class_room full) file.now)
         (isolate library_limits file.now attention words.now read.now list.old)
@@ -313,7 +319,7 @@ pub fn isolate_with(
     read: &[u8],
     list: &mut [u8],
     larger: usize,
-) -> Isolated
+) -> Result<Isolation, Refusal>
     ensures { outcome_of result list.new ≡ isolate library_limits file.now attention words.now read.now list.old }
 {
     if larger == 0 {
@@ -350,7 +356,7 @@ pub fn find_with(
     heads: &mut [u64],
     rows: &mut [u64],
     larger: usize,
-) -> Found
+) -> Result<Kept, Refusal>
     ensures exact { is_found result ≡ true → found_of attention result heads.new rows.new ≡ find library_limits slot file.now attention words.now read.now }
     ensures enough { library_limits.node_instances ≤ length heads.old → library_limits.node_instances ≤ length rows.old → is_found result ≡ true }
     ensures within { RowsWithin result heads.old rows.old }

@@ -37,22 +37,14 @@ pub struct Kept {
     pub steps: usize,
 }
 
-// What isolation finds before a list is looked at.
-#[derive(Clone, Copy)]
-pub enum Found {
-    Rows(Kept),
-    Refused(Refusal),
-}
-
-// The answer of isolation.
-#[derive(Clone, Copy)]
-pub enum Isolated {
-    Done(Isolation),
-    Refused(Refusal),
-}
-
 // Isolation: the records of the active bits that are reached from the wanted root and have no child, or a child that shows nothing, in the lent list; how many they are, and how many node instances were reached. Or a refusal, and the list keeps its bytes. The words and the read bytes stand in the register instances' file order. It takes the tables that most files of such a length fit, and larger ones where they are too short.
-pub fn isolate(file: &[u8], attention: u8, words: &[u64], read: &[u8], list: &mut [u8]) -> Isolated
+pub fn isolate(
+    file: &[u8],
+    attention: u8,
+    words: &[u64],
+    read: &[u8],
+    list: &mut [u8],
+) -> Result<Isolation, Refusal>
     ensures { outcome_of result list.new
         ≡ isolate library_limits file.now attention words.now read.now list.old }
 {
@@ -75,7 +67,7 @@ pub fn find(
     read: &[u8],
     heads: &mut [u64],
     rows: &mut [u64],
-) -> Found
+) -> Result<Kept, Refusal>
     ensures exact { is_found result ≡ true → found_of attention result heads.new rows.new ≡ find library_limits slot file.now attention words.now read.now }
     ensures enough { library_limits.node_instances ≤ length heads.old → library_limits.node_instances ≤ length rows.old → is_found result ≡ true }
     ensures within { RowsWithin result heads.old rows.old }

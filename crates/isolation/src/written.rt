@@ -5,9 +5,9 @@ ghost use Rattle.listing.specs.Rows.{rows_of, kept_count, kept_records};
 ghost use Rattle.isolation.specs.Outcome.{outcome_of, written, in_list};
 ghost use Rattle.isolation.specs.Rows.{found_of, RowsWithin};
 
-use crate::{Found, Isolated, Isolation};
+use crate::{Isolation, Kept};
 use format::{Kind, Refusal};
-use listing::{Listing, write_list};
+use listing::write_list;
 
 // The answer by some rows: their records in the lent list, or 19 and the list keeps its bytes. With more heads than a board has node instances it is free.
 pub fn write_rows(
@@ -16,48 +16,36 @@ pub fn write_rows(
     heads: &[u64],
     words: &[u64],
     steps: usize,
-) -> Isolated
+) -> Result<Isolation, Refusal>
     ensures { length heads.now ≤ board_node_instances
         → outcome_of result list.new ≡ written (kept_count (rows_of heads.now words.now)) (kept_records attention (rows_of heads.now words.now)) steps list.old }
 {
-    let l = write_list(list, attention, heads, words);
-    match l {
-        Listing::Written(records) => Isolated::Done(Isolation { records, steps }),
-        Listing::NoRoom(records) => Isolated::Refused(Refusal {
-            kind: Kind::NoRoom,
-            place: records,
-        }),
-    }
+    let records = write_list(list, attention, heads, words)?;
+    Ok(Isolation { records, steps })
 }
 
 // The answer by what was found, from the tables that hold its rows. Where they do not hold so many, or these are more than a file has node instances, it is free.
 pub fn write_found(
     list: &mut [u8],
     attention: u8,
-    f: Found,
+    f: Result<Kept, Refusal>,
     heads: &[u64],
     words: &[u64],
-) -> Isolated
+) -> Result<Isolation, Refusal>
     ensures { RowsWithin f heads.now words.now
         → outcome_of result list.new ≡ in_list list.old (found_of attention f heads.now words.now) }
 {
     match f {
-        Found::Rows(k) => {
+        Ok(k) => {
             let n = k.rows;
-            if heads.len() < n {
-                return Isolated::Refused(Refusal {
-                    kind: Kind::TableTooShort,
-                    place: 0,
-                });
-            }
-            if words.len() < n {
-                return Isolated::Refused(Refusal {
+            if heads.len() < n || words.len() < n {
+                return Err(Refusal {
                     kind: Kind::TableTooShort,
                     place: 0,
                 });
             }
             write_rows(list, attention, &heads[..n], &words[..n], k.steps)
         }
-        Found::Refused(r) => Isolated::Refused(r),
+        Err(r) => Err(r),
     }
 }

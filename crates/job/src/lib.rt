@@ -2,7 +2,6 @@
 #![tactic(auto)]
 
 ghost use Rattle.std.specs.Io.{ReadsAtMost};
-ghost use Rattle.std.specs.Prelude.{◌≡◌, ◌≤◌, length, take};
 ghost use Rattle.job.specs.Printed.{Printed};
 
 use report::report;
@@ -25,21 +24,12 @@ fn read_full<R: Read>(input: &mut R, bytes: &mut [u8]) -> io::Result<usize>
     Ok(done)
 }
 
-// The first bytes of a file, as many as there are places for them. A file that cannot be opened counts as empty, and so does one that cannot be read to its end.
-fn read_file<R: Files>(rt: &R, path: &str, bytes: &mut [u8]) -> usize
-    ensures { (result ≤ length bytes.new) × (result ≡ length (take result bytes.new)) }
-{
-    let Ok(mut file) = fs::open(rt, path) else {
-        return 0;
-    };
-    let Ok(n) = read_full(&mut file, bytes) else {
-        return 0;
-    };
-    let mut next = [0u8; 1];
-    if file.read(&mut next).is_err() {
-        return 0;
-    }
-    n
+// The first bytes of a file, as many as there are places for them. The file is read past these, so that it is known to be readable.
+fn read_file<'a, R: Files>(rt: &R, path: &str, bytes: &'a mut [u8]) -> io::Result<&'a [u8]> {
+    let mut file = fs::open(rt, path)?;
+    let n = read_full(&mut file, bytes)?;
+    file.read(&mut [0; 1])?;
+    Ok(&bytes[..n])
 }
 
 // The value of the first byte of standard input; 0 where there is none.
@@ -51,17 +41,17 @@ fn wanted_type(rt: &impl Input) -> u8 {
     }
 }
 
-// The whole job; the answer is how many bytes the text has, and whether they could be printed. One byte more than a file may have is read of each, so that a longer file is seen to be longer.
+// The whole job; the answer is how many bytes the text has, and whether they could be printed. A file that cannot be opened counts as empty, and so does one that cannot be read to its end. One byte more than a file may have is read of each, so that a longer file is seen to be longer.
+// Kept: a pair and no Result, since the number is promised where the text cannot be printed too.
 pub fn run(rt: &(impl Files + Input + Print)) -> (usize, io::Result<()>)
     ensures { Printed result.0 }
 {
-    let mut chip = [0u8; limits::PROGRAM_BYTES + 1];
-    let m = read_file(rt, "chip.cdb", &mut chip);
-    let mut readings = [0u8; limits::PROGRAM_REGISTER_INSTANCES * 16 + 1];
-    let n = read_file(rt, "readings.bin", &mut readings);
-    let attention = wanted_type(rt);
+    let mut room = [0u8; limits::PROGRAM_BYTES + 1];
+    let chip = read_file(rt, "chip.cdb", &mut room).unwrap_or(&[]);
+    let mut room = [0u8; limits::PROGRAM_REGISTER_INSTANCES * 16 + 1];
+    let readings = read_file(rt, "readings.bin", &mut room).unwrap_or(&[]);
     let mut text = [0u8; 152_000];
-    let k = report(&chip[..m], attention, &readings[..n], &mut text);
-    let printed = rt.write_all(&text[..k]);
-    (k, printed)
+    let n = report(chip, wanted_type(rt), readings, &mut text);
+    let printed = rt.write_all(&text[..n]);
+    (n, printed)
 }

@@ -32,17 +32,13 @@ pub const FULL_NODES: usize = crate::NODE_INSTANCES;
 pub fn larger_classes(bytes: usize) -> usize
     ensures { result ≤ 3 }
 {
-    if crate::BYTES < bytes {
-        return 3;
+    if crate::BYTES < bytes || bytes <= SMALL_BYTES {
+        3
+    } else if bytes <= MIDDLE_BYTES {
+        2
+    } else if bytes <= LARGE_BYTES {
+        1
+    } else {
+        0
     }
-    if bytes <= SMALL_BYTES {
-        return 3;
-    }
-    if bytes <= MIDDLE_BYTES {
-        return 2;
-    }
-    if bytes <= LARGE_BYTES {
-        return 1;
-    }
-    0
 }

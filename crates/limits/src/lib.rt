@@ -35,32 +35,51 @@ pub const SLOTS: usize = 16;
 
 pub const BOARD_NODE_INSTANCES: usize = SLOTS * NODE_INSTANCES;
 
+// The limits of a set.
+#[derive(Clone, Copy)]
+struct Limits {
+    bytes: usize,
+    register_instances: usize,
+    node_instances: usize,
+}
+
+#[tactic(auto, unfolding(crate::specs::Limits::limits_of))]
+fn limits_of(of: LimitSet) -> Limits
+    ensures bytes { result.bytes ≡ (limits_of of).bytes }
+    ensures register_instances { result.register_instances ≡ (limits_of of).register_instances }
+    ensures node_instances { result.node_instances ≡ (limits_of of).node_instances }
+{
+    match of {
+        LimitSet::Library => Limits {
+            bytes: BYTES,
+            register_instances: REGISTER_INSTANCES,
+            node_instances: NODE_INSTANCES,
+        },
+        LimitSet::Program => Limits {
+            bytes: PROGRAM_BYTES,
+            register_instances: PROGRAM_REGISTER_INSTANCES,
+            node_instances: PROGRAM_NODE_INSTANCES,
+        },
+    }
+}
+
 // The most bytes of a file.
 pub fn bytes(of: LimitSet) -> usize
     ensures { result ≡ (limits_of of).bytes }
 {
-    match of {
-        LimitSet::Library => BYTES,
-        LimitSet::Program => PROGRAM_BYTES,
-    }
+    limits_of(of).bytes
 }
 
 // The most register instances of a file.
 pub fn register_instances(of: LimitSet) -> usize
     ensures { result ≡ (limits_of of).register_instances }
 {
-    match of {
-        LimitSet::Library => REGISTER_INSTANCES,
-        LimitSet::Program => PROGRAM_REGISTER_INSTANCES,
-    }
+    limits_of(of).register_instances
 }
 
 // The most node instances of a file.
 pub fn node_instances(of: LimitSet) -> usize
     ensures { result ≡ (limits_of of).node_instances }
 {
-    match of {
-        LimitSet::Library => NODE_INSTANCES,
-        LimitSet::Program => PROGRAM_NODE_INSTANCES,
-    }
+    limits_of(of).node_instances
 }

@@ -2,46 +2,38 @@
 use mathlib.Core.Path.{◌≡◌, refl, sym, ap, ◌∙◌}
 use mathlib.Core.Bool.{Bool, true, false, cond}
 use mathlib.Core.List.{List, [], ◌∷◌, ◌++◌, append-nil}
-use Prim.Native.Nat.{ℕ, zero, suc, ◌+◌, ◌*◌, ◌≤◌, ◌<◌}
+use Prim.Native.Nat.{ℕ, zero, suc, ◌+◌, ◌*◌, ◌^◌, ◌≤◌, ◌<◌, min}
 use native.Mathlib.Numerals.{add-one}
 use native.Mathlib.Omega.{arith}
 use borrow.Author.Tests.{eqb-true, eq-eqb, ne_eqb}
+use lib.Count.{ones}
 use lib.Dec.{eqb}
 use lib.ListN.{length, get_or, set, take, length-append}
-use lib.Seq.{take-suc, take-suc-set, take-length, length-take-le}
+use lib.Seq.{take-suc, take-suc-set, take-nil, take_all, length-take-le}
 use Rattle.limits.specs.Limits.{slots, board_node_instances}
 use Rattle.graph.specs.Chains.{Graph, below}
 use Rattle.format.specs.Lookup.{gathered}
 use Rattle.format.proofs.GatheredLaws.{gathered-append, gathered_one}
 use Rattle.walk.specs.TableGraph.{table_size, table_graph}
-use Rattle.listing.specs.Rows.{row_links, rows_to, row_word, set_to, head_of, word_records, row_records, rows_records, Row, row, rows_of, first_rows, kept_count, kept_records, RowsKept, RowsIn, table_links, table_records}
+use Rattle.listing.specs.Rows.{row_links, rows_to, row_word, set_to, head_of, word_records, row_records, rows_records, Row, row, rows_of, first_rows, kept_count, kept_records, RowsKept, table_links, table_records}
 use Rattle.listing.proofs.RowsLaws.{rows_none, rows_more}
-use Rattle.listing.proofs.WordLaws.{set_none, set_few, word_none, row-set, row-records}
+use Rattle.listing.proofs.WordLaws.{set-ones, set_none, set_few, word_none, row-set, row-records}
 
 -- Rows of two tables
 
-rows_cut : (hs ws : List ℕ) → rows_of hs ws ≡ rows_of hs (take (length hs) ws)
+-- Two tables have as many rows as the shorter one has places.
+pub rows_least : (heads words : List ℕ) (n : ℕ) → min (length heads) (length words) ≤ n → rows_of (take n heads) (take n words) ≡ rows_of heads words
 unfolding rows_of
-rows_cut [] ws = refl
-rows_cut (h ∷ hs) [] = refl
-rows_cut (h ∷ hs) (w ∷ ws) = ap (λ r. row h w ∷ r) (rows_cut hs ws)
+rows_least [] words n l = rw (take-nil n)
+rows_least (h ∷ heads) [] zero l = refl
+rows_least (h ∷ heads) [] (suc n) l = refl
+rows_least (h ∷ heads) (w ∷ words) zero l = absurd (omega arith)
+rows_least (h ∷ heads) (w ∷ words) (suc n) l = ap (λ r. row h w ∷ r) (rows_least heads words n (omega arith))
 
-rows_cut_heads : (hs ws : List ℕ) → rows_of hs ws ≡ rows_of (take (length ws) hs) ws
-unfolding rows_of
-rows_cut_heads [] [] = refl
-rows_cut_heads [] (w ∷ ws) = refl
-rows_cut_heads (h ∷ hs) [] = refl
-rows_cut_heads (h ∷ hs) (w ∷ ws) = ap (λ r. row h w ∷ r) (rows_cut_heads hs ws)
-
-pub rows_by_heads : (heads words : List ℕ) → length heads < length words → RowsIn heads words (length heads)
+-- All rows of two tables of one length.
+pub rows_all : (heads words : List ℕ) → length heads ≡ length words → (n : ℕ) → length heads ≤ n → first_rows n heads words ≡ rows_of heads words
 unfolding first_rows
-rows_by_heads heads words l =
-    record { in_heads = omega arith; in_words = omega arith; all = rows_cut heads words ∙ ap (λ t. rows_of t (take (length heads) words)) (sym (take-length heads)) }
-
-pub rows_by_words : (heads words : List ℕ) → length words ≤ length heads → RowsIn heads words (length words)
-unfolding first_rows
-rows_by_words heads words l =
-    record { in_heads = l; in_words = omega arith; all = rows_cut_heads heads words ∙ ap (λ t. rows_of (take (length words) heads) t) (sym (take-length words)) }
+rows_all heads words same n l = rw (take_all n heads (omega arith), take_all n words (omega arith))
 
 pub rows_append : (a b c d : List ℕ) → length a ≡ length c → rows_of (a ++ b) (c ++ d) ≡ rows_of a c ++ rows_of b d
 unfolding rows_of
@@ -177,9 +169,6 @@ module _ (model slot : ℕ) (keys : List ℕ) (g : Graph) (marks : List ℕ) whe
             ∙ rw (word-records attention head word, k.records attention, h, row-records model slot attention keys g marks i w) (sym (records_more attention i));
       }
 
-  pub kept_end : (i n : ℕ) {rs : List Row} → RowsKept model slot keys g marks i rs → i ≡ n → RowsKept model slot keys g marks n rs
-  kept_end i n k e = rw (← e) k
-
 -- The rows of two tables' graph.
 pub table_kept : (model slot : ℕ) (keys marks act ch : List ℕ) (n : ℕ) → n ≡ table_size act → {rs : List Row} → RowsKept model slot keys (table_graph act ch) marks n rs
     → (kept_count rs ≡ length (table_links marks act ch)) × ((attention : ℕ) → kept_records attention rs ≡ table_records model slot attention keys marks act ch)
@@ -201,3 +190,12 @@ count_few heads words zero a b = omega (arith, count_none heads words)
 count_few heads words (suc n) a b =
     let e : kept_count (first_rows (suc n) heads words) ≡ kept_count (first_rows (n + 1) heads words) = ap (λ k. kept_count (first_rows k heads words)) (sym (add-one n)) in
     omega (arith, e, count_next heads words n (omega arith) (omega arith), set_few (get_or words n 0), count_few heads words n (omega arith) (omega arith))
+
+-- The words of the rows, one after another.
+module _ (heads words : List ℕ) (i : ℕ) (same : length heads ≡ length words) (within : i < length words)
+    {count : ℕ} (counted : count ≡ kept_count (first_rows i heads words)) (fits : get_or words i 0 < 2 ^ 64) where
+  pub counted_next : count + ones (get_or words i 0) ≡ kept_count (first_rows (i + 1) heads words)
+  counted_next = omega (arith, counted, set-ones (get_or words i 0) fits, count_next heads words i (omega arith) within)
+
+  pub counted_few : count + ones (get_or words i 0) ≤ length heads * 64
+  counted_few = omega (arith, counted_next, count_few heads words (i + 1) (omega arith) (omega arith))

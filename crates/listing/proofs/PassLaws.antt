@@ -1,6 +1,6 @@
 -- The two passes: the listable bits of a node instance gathered into a word, and the records of a word's bits, one bit after another.
 use mathlib.Core.Path.{◌≡◌, sym, ◌∙◌}
-use mathlib.Core.Bool.{Bool, true, false, cond}
+use mathlib.Core.Bool.{false, cond}
 use mathlib.Core.List.{List, ◌++◌}
 use Prim.Native.Nat.{ℕ, ◌+◌, ◌*◌, ◌^◌, ◌≤◌, ◌<◌}
 use native.Mathlib.Omega.{arith}
@@ -16,14 +16,6 @@ use Rattle.listing.proofs.WordLaws.{word_to, word_started, word_skip, word_step,
 use Rattle.listing.proofs.WriteLaws.{bits_started, bits_wrote, room_next}
 
 -- The first pass
-
--- One bit.
-module _ (b word : ℕ) {t s : Bool} (e : t ≡ s) where
-  pub bit_kept : t ≡ true → {w : ℕ} → w ≡ with_bit 64 b word → w ≡ cond s (with_bit 64 b word) word
-  bit_kept d k = rw (sym e ∙ d) k
-
-  pub bit_passed : t ≡ false → word ≡ cond s (with_bit 64 b word) word
-  bit_passed d = rw (sym e ∙ d)
 
 -- The word has those of the bits that were taken that are listable, and `rest` has the other bits.
 abbrev pub Gathered : List ℕ → List ℕ → ℕ → ℕ → ℕ → Type 0

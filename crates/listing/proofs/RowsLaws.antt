@@ -6,8 +6,8 @@ use Prim.Native.Nat.{ℕ, suc, ◌+◌, ◌*◌, ◌/◌, ◌%◌, ◌^◌, ◌�
 use native.Mathlib.Omega.{arith}
 use native.Mathlib.Numerals.{add-one}
 use lib.Dec.{eqb, ltb}
-use lib.ListN.{length, get_or, set, take, drop, get_or-eq_default}
 use lib.Seq.{sets-eq}
+use lib.ListN.{length, get_or, set, take, drop, get_or-eq_default}
 use borrow.Author.Tests.{eqb-true, eq-eqb, lt-ltb}
 use Rattle.numbers.specs.Bits.{bit_of}
 use Rattle.numbers.specs.BigEndian.{bytes_of}
@@ -56,15 +56,10 @@ module _ (act ch : List ℕ) (n i b : ℕ) (size : n ≡ table_size act) (h : i 
     listable_child l w =
         simp (i_in, on, lt-ltb b 64 b64, found_some act ch n (i * 64 + b) size found l) (word_silent act ch c (omega (arith, size, l)) w)
 
--- A mark and a key that a table may not have
-
+-- A node instance that has no mark is not done.
 pub done_none : (marks : List ℕ) (i : ℕ) → length marks ≤ i → false ≡ is_done marks i
 unfolding is_done
 done_none marks i h = rw (get_or-eq_default marks 0 h)
-
-pub done_there : (marks : List ℕ) (i : ℕ) → eqb (get_or marks i 0) 2 ≡ is_done marks i
-unfolding is_done
-done_there marks i = refl
 
 -- One bit more, and one node instance more
 

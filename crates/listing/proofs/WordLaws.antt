@@ -149,14 +149,6 @@ unfolding word_records
 word_none attention h = rw set_none (no_records attention h)
 
 module _ (g : Graph) (marks : List ℕ) (i : ℕ) where
-  pub row_yes : {t : Bool} {word : ℕ} → t ≡ is_done marks i → t ≡ true → word ≡ listed_word g i → word ≡ row_word g marks i
-  unfolding row_word
-  row_yes e d w = rw (sym e ∙ d) w
-
-  pub row_no : {t : Bool} → t ≡ is_done marks i → t ≡ false → 0 ≡ row_word g marks i
-  unfolding row_word
-  row_no e d = rw (sym e ∙ d)
-
   pub row-set : {word : ℕ} → word ≡ row_word g marks i → length (set_to word 64) ≡ length (row_links g marks i)
   unfolding row_word row_links
   row-set e = ap (λ x. length (set_to x 64)) e ∙ go (is_done marks i)

@@ -1,4 +1,5 @@
 -- The laws of writing: records one after another, and the rest of the list as it was.
+use Rattle.std.specs.Prelude.{Ok, Err}
 use mathlib.Core.Path.{◌≡◌, refl, sym, ap, ◌∙◌}
 use mathlib.Core.Bool.{true, cond}
 use mathlib.Core.List.{List, [], ◌∷◌, ◌++◌, append_assoc}
@@ -12,12 +13,12 @@ use lib.Seq.{take_at, drop-append-add, drop-drop}
 use Rattle.numbers.specs.Bits.{bit_of}
 use Rattle.numbers.proofs.BigEndianLaws.{length_bytes}
 use Rattle.graph.specs.Chains.{below, kept}
+use Rattle.format.specs.declared.Kind.TheVariants.{NoRoom}
 use Rattle.format.specs.Lookup.{gathered}
-use Rattle.listing.specs.declared.Listing.{Listing}
 use Rattle.listing.specs.Records.{bit_bytes, record_of, record_size}
-use Rattle.listing.specs.Rows.{set_to, key_id, key_number, head_model, head_slot, head_record, bit_records, word_records, Row, rows_of, first_rows, kept_count, kept_records, RowsIn, Wrote, listing_values, has_room, listing_for, list_after}
+use Rattle.listing.specs.Rows.{set_to, key_id, key_number, head_model, head_slot, head_record, bit_records, word_records, Row, rows_of, first_rows, kept_count, kept_records, Wrote, listing_values, has_room, listing_for, list_after}
 use Rattle.format.proofs.GatheredLaws.{gathered-append, gathered_one}
-use Rattle.listing.proofs.KeptLaws.{rows_next, records_one, count_next, count_mono}
+use Rattle.listing.proofs.KeptLaws.{rows_all, rows_next, records_one, count_next, count_mono}
 use Rattle.listing.proofs.WordLaws.{set_more, set_mono}
 
 pub record-length : (model slot attention bit id number : ℕ) → length (record_of model slot attention bit id number) ≡ 16
@@ -104,28 +105,33 @@ module _ (attention : ℕ) where
   unfolding first_rows rows_of kept_records gathered
   kept_started heads words {old} = wrote_none old 0
 
-  module _ (heads words : List ℕ) (i : ℕ) (in_heads : i < length heads) (in_words_lem : i < length words) where
-    pub kept_wrote : {old mid new : List ℕ} {k next : ℕ} → Wrote old mid 0 k (kept_records attention (first_rows i heads words))
-        → Wrote mid new k next (word_records attention (get_or heads i 0) (get_or words i 0)) → next ≤ length old
-        → Wrote old new 0 next (kept_records attention (first_rows (i + 1) heads words))
-    kept_wrote x y h = rw (rows_next heads words i in_heads in_words_lem, records_one attention (first_rows i heads words)) (wrote_more x y h)
-
-    -- While there is room for all rows, there is room for the next.
-    pub kept_room : (n : ℕ) → i < n → {old mid : List ℕ} {k : ℕ} → 16 * kept_count (first_rows n heads words) ≤ length old
-        → Wrote old mid 0 k (kept_records attention (first_rows i heads words)) → k + 16 * length (set_to (get_or words i 0) 64) ≤ length old
-    kept_room n h r w =
-        omega (
-          arith,
-          r,
-          w.ends,
-          kept-length (first_rows i heads words),
-          count_next heads words i in_heads in_words_lem,
-          count_mono heads words (i + 1) n (omega arith),
-        )
-
   pub word-length : (head word : ℕ) → length (word_records attention head word) ≡ 16 * length (set_to word 64)
   unfolding word_records
   word-length head word = records-length attention head (set_to word 64)
+
+  module _ (heads words : List ℕ) (i : ℕ) (in_heads : i < length heads) (in_words : i < length words) {h w : ℕ} (head_is : h ≡ get_or heads i 0) (word_is : w ≡ get_or words i 0)
+      (same : length heads ≡ length words) {old mid : List ℕ} {k : ℕ} (room : 16 * kept_count (rows_of heads words) ≤ length old) (before : Wrote old mid 0 k (kept_records attention (first_rows i heads words))) where
+    fits : k + 16 * length (set_to w 64) ≤ length old
+    fits =
+        rw word_is
+        (omega (
+          arith,
+          room,
+          before.ends,
+          kept-length (first_rows i heads words),
+          count_next heads words i in_heads in_words,
+          count_mono heads words (i + 1) (length heads) (omega arith),
+          ap kept_count (rows_all heads words same (length heads) (omega arith)),
+        ))
+
+    -- While there is room for all rows, there is room for the next.
+    pub kept_room : k + 16 * length (set_to w 64) ≤ length mid
+    kept_room = omega (arith, fits, before.same)
+
+    pub kept_wrote : {new : List ℕ} {next : ℕ} → Wrote mid new k next (word_records attention h w) → Wrote old new 0 next (kept_records attention (first_rows (i + 1) heads words))
+    kept_wrote y =
+        rw (rows_next heads words i in_heads in_words, ← head_is, ← word_is, records_one attention (first_rows i heads words))
+        (wrote_more before y (omega (arith, fits, y.ends, word-length h w)))
 
 -- What was written from the front on.
 written_front : {old new bs : List ℕ} {next : ℕ} → Wrote old new 0 next bs → new ≡ bs ++ drop (length bs) old
@@ -133,23 +139,23 @@ written_front {old} {new} {bs} w = w.content ∙ ap (λ q. bs ++ drop q old) (le
 
 -- Room
 
-module _ (heads words : List ℕ) (n : ℕ) (rows : RowsIn heads words n) {c : ℕ} (e : c ≡ kept_count (first_rows n heads words)) where
+module _ (heads words hs ws : List ℕ) (rows : rows_of hs ws ≡ rows_of heads words) {c : ℕ} (e : c ≡ kept_count (rows_of hs ws)) where
   count_is : c ≡ kept_count (rows_of heads words)
-  count_is = rw rows.all e
+  count_is = rw (← rows) e
 
-  pub room_yes : (bytes : ℕ) → c ≤ bytes / 16 → listing_values (Listing.Written c) ≡ listing_for (kept_count (rows_of heads words)) bytes
+  pub room_yes : (bytes : ℕ) → c ≤ bytes / 16 → listing_values (Ok c) ≡ listing_for (kept_count (rows_of heads words)) bytes
   unfolding listing_for has_room record_size
   room_yes bytes h = rw (← count_is, le-leb _ _ h)
 
-  pub room_no : (bytes : ℕ) → bytes / 16 < c → listing_values (Listing.NoRoom c) ≡ listing_for (kept_count (rows_of heads words)) bytes
+  pub room_no : (bytes : ℕ) → bytes / 16 < c → listing_values (Err (record { kind = NoRoom; place = c })) ≡ listing_for (kept_count (rows_of heads words)) bytes
   unfolding listing_for has_room record_size
   room_no bytes h = rw (← count_is, lt-leb _ _ h)
 
-  pub list_written : (attention : ℕ) {list new : List ℕ} {next : ℕ} → c ≤ length list / 16 → Wrote list new 0 next (kept_records attention (first_rows n heads words))
+  pub list_written : (attention : ℕ) {list new : List ℕ} {next : ℕ} → c ≤ length list / 16 → Wrote list new 0 next (kept_records attention (rows_of hs ws))
       → new ≡ list_after attention (rows_of heads words) list
   unfolding list_after has_room record_size
   list_written attention {list} {next = next} h w =
-      written_front {bs = kept_records attention (rows_of heads words)} {next = next} (rw rows.all w)
+      written_front {bs = kept_records attention (rows_of heads words)} {next = next} (rw (← rows) w)
       ∙ ap (λ t. cond t (kept_records attention (rows_of heads words) ++ drop (length (kept_records attention (rows_of heads words))) list) list) (sym (ap (λ x. leb x (length list / 16)) (sym count_is) ∙ le-leb _ _ h))
 
   pub list_kept : (attention : ℕ) (list : List ℕ) → length list / 16 < c → list ≡ list_after attention (rows_of heads words) list

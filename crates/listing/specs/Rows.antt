@@ -1,10 +1,11 @@
 -- The listing as the code goes through it: node instances from 0 up, and of each done one the bits from 0 up.
-use Rattle.std.specs.Prelude.{ℕ, ◌+◌, ◌*◌, ◌/◌, ◌%◌, ◌≤◌, Bool, cond, List, [], ◌∷◌, ◌++◌, map, ◌≡◌, eqb, leb, length, get_or, take, drop}
+use Rattle.std.specs.Prelude.{ℕ, ◌+◌, ◌*◌, ◌/◌, ◌%◌, Bool, cond, List, [], ◌∷◌, ◌++◌, map, ◌≡◌, eqb, leb, length, get_or, take, drop, Result, Ok, Err}
 use Rattle.numbers.specs.Bits.{bit_of, word_of}
 use Rattle.graph.specs.Chains.{Graph, Link, link, listable, below, kept}
+use Rattle.format.specs.declared.Refusal.{Refusal}
 use Rattle.format.specs.Lookup.{gathered}
+use Rattle.format.specs.Refusals.{number_of}
 use Rattle.walk.specs.TableGraph.{table_size, table_graph}
-use Rattle.listing.specs.declared.Listing.{Listing}
 use Rattle.listing.specs.Records.{record_of, record_size}
 
 -- Those of the first n bits of i that are listed if i is reached.
@@ -100,12 +101,6 @@ pub record RowsKept (model slot : ℕ) (keys : List ℕ) (g : Graph) (marks : Li
   pub count : kept_count rs ≡ length (rows_to g marks n)
   pub records : (attention : ℕ) → kept_records attention rs ≡ rows_records model slot attention keys g marks n
 
--- Two tables have n rows, and no more.
-pub record RowsIn (heads words : List ℕ) (n : ℕ) : Type 0 where
-  pub in_heads : n ≤ length heads
-  pub in_words : n ≤ length words
-  pub all : rows_of heads words ≡ first_rows n heads words
-
 -- Some bytes were written at a place: the list before and after, and the place after them.
 pub record Wrote (old new : List ℕ) (at next : ℕ) (bs : List ℕ) : Type 0 where
   pub content : new ≡ take at old ++ (bs ++ drop next old)
@@ -124,9 +119,9 @@ written_with count = record { number = 0; place = 0; records = count }
 abbrev pub no_room_with : ℕ → ℕ → ListingValues
 no_room_with n p = record { number = n; place = p; records = 0 }
 
-abbrev pub listing_values : Listing → ListingValues
-listing_values (Listing.Written count) = written_with count
-listing_values (Listing.NoRoom count) = no_room_with 19 count
+abbrev pub listing_values : Result ℕ Refusal → ListingValues
+listing_values (Ok count) = written_with count
+listing_values (Err r) = no_room_with (number_of r.kind) r.place
 
 -- A list of so many bytes has "a whole record's place" for each of so many records.
 unfoldable pub has_room : ℕ → ℕ → Bool

@@ -1,5 +1,5 @@
 // The list: the listed bits are kept as rows first, a head and a word for each node instance that has one; the records are written from the rows, and only where there is room for all.
-#![tactic(auto)]
+#![tactic(auto, unfolding(walk::specs::TableGraph::table_size))]
 
 ghost use Rattle.std.specs.Prelude.{◌≡◌, true, cond, [], ◌∷◌, ◌++◌, ℕ, ◌+◌, ◌*◌, ◌<◌, ◌≤◌, eqb, length, get_or, take, drop};
 ghost use Rattle.limits.specs.Limits.{library_limits, board_node_instances};
@@ -7,85 +7,71 @@ ghost use Rattle.numbers.specs.Bits.{bit_of};
 ghost use Rattle.numbers.specs.NextBit.{with_bit};
 ghost use Rattle.graph.specs.Chains.{listable};
 ghost use Rattle.walk.specs.TableGraph.{table_size, table_graph};
-ghost use Rattle.listing.specs.Rows.{is_done, listed_word, row_word, set_to, head_of, head_record, word_records, row, rows_of, first_rows, kept_count, kept_records, RowsKept, RowsIn, Wrote, listing_values, listing_for, table_links, table_records, list_after};
+ghost use Rattle.listing.specs.Rows.{is_done, listed_word, row_word, set_to, head_of, head_record, word_records, row, rows_of, first_rows, kept_count, kept_records, RowsKept, Wrote, listing_values, listing_for, table_links, table_records, list_after};
 
-// How many records were written; or how many there is no room for.
-#[derive(Clone, Copy)]
-pub enum Listing {
-    Written(usize),
-    NoRoom(usize),
-}
+use format::{Kind, Refusal};
+use tables::entry;
+use walk::TableGraph;
 
 // Whether the instance i is done. One that the table has no mark for is not.
+#[tactic(auto, using(crate::proofs::RowsLaws::done_none), unfolding(crate::specs::Rows::is_done))]
 fn is_done(marks: &[u8], i: usize) -> bool
     ensures { result ≡ is_done marks.now i }
 {
-    if marks.len() <= i {
-        return false;
-    }
-    marks[i] == 2
-}
-
-// The key of the instance i: 0 where the table has none.
-fn key_at(keys: &[u64], i: usize) -> u64
-    ensures { result ≡ get_or keys.now i 0 }
-{
-    if keys.len() <= i {
-        return 0;
-    }
-    keys[i]
+    i < marks.len() && marks[i] == 2
 }
 
 // Whether the active bit b of the instance i has no child, or one that shows nothing. A child shows nothing exactly where the word of its active bits is 0.
-fn listable(active: &[u64], child: &[u16], n: usize, i: usize, b: u8) -> bool
-    requires { (n ≡ table_size active.now) × (i < n) × (b < 64) × (bit_of 64 (get_or active.now i 0) b ≡ true) }
-    ensures { result ≡ listable (table_graph active.now child.now) i b }
+#[tactic(auto, using(crate::proofs::RowsLaws::listable_childless, crate::proofs::RowsLaws::listable_child), unfolding(walk::specs::TableGraph::table_size))]
+fn listable(graph: &TableGraph, i: usize, b: u8) -> bool
+    requires { (i < graph.now.size) × (b < 64) × (bit_of 64 (get_or graph.now.active.now i 0) b ≡ true) }
+    ensures { result ≡ listable (table_graph graph.now.active.now graph.now.children.now) i b }
 {
-    let c = walk::child_at(n, child, i * 64 + b as usize);
-    if n <= c {
-        return true;
-    }
-    active[c] == 0
+    let c = graph.child(i * 64 + b as usize);
+    graph.size <= c || graph.active[c] == 0
 }
 
 // A word with the active bit b of the instance i, if that is listable; otherwise as it is.
-fn keep_bit(active: &[u64], child: &[u16], n: usize, i: usize, b: u8, word: u64) -> u64
-    requires { (n ≡ table_size active.now) × (i < n) × (b < 64) × (bit_of 64 (get_or active.now i 0) b ≡ true) }
-    ensures { result ≡ cond (listable (table_graph active.now child.now) i b) (with_bit 64 b word) word }
+fn keep_bit(graph: &TableGraph, i: usize, b: u8, word: u64) -> u64
+    requires { (i < graph.now.size) × (b < 64) × (bit_of 64 (get_or graph.now.active.now i 0) b ≡ true) }
+    ensures { result ≡ cond (listable (table_graph graph.now.active.now graph.now.children.now) i b) (with_bit 64 b word) word }
 {
-    if listable(active, child, n, i, b) {
-        return numbers::with_bit(word, b);
+    if listable(graph, i, b) {
+        numbers::with_bit(word, b)
+    } else {
+        word
     }
-    word
 }
 
 // The word of the listable bits of the instance i. It looks at each of its active bits once, and at no other.
-fn keep_bits(active: &[u64], child: &[u16], n: usize, i: usize) -> u64
-    requires { (n ≡ table_size active.now) × (i < n) }
-    ensures { result ≡ listed_word (table_graph active.now child.now) i }
+fn keep_bits(graph: &TableGraph, i: usize) -> u64
+    requires { i < graph.now.size }
+    ensures { result ≡ listed_word (table_graph graph.now.active.now graph.now.children.now) i }
 {
     let mut word = 0;
-    let mut unseen = active[i];
+    let mut unseen = graph.active[i];
     while unseen != 0 {
-        let b = numbers::next_bit(unseen);
-        word = keep_bit(active, child, n, i, b, word);
+        word = keep_bit(graph, i, numbers::next_bit(unseen), word);
         unseen = numbers::without_next(unseen);
     }
     word
 }
 
 // The word of the bits that the instance i has in the list: none unless it is done.
-fn row_word(marks: &[u8], active: &[u64], child: &[u16], n: usize, i: usize) -> u64
-    requires { (n ≡ table_size active.now) × (i < n) }
-    ensures { result ≡ row_word (table_graph active.now child.now) marks.now i }
+#[tactic(auto, unfolding(crate::specs::Rows::row_word))]
+fn row_word(graph: &TableGraph, marks: &[u8], i: usize) -> u64
+    requires { i < graph.now.size }
+    ensures { result ≡ row_word (table_graph graph.now.active.now graph.now.children.now) marks.now i }
 {
     if is_done(marks, i) {
-        return keep_bits(active, child, n, i);
+        keep_bits(graph, i)
+    } else {
+        0
     }
-    0
 }
 
 // The head of the rows of a slot: the model, the slot and a node instance's key.
+#[tactic(auto, unfolding(crate::specs::Rows::head_of))]
 fn head_of(model: u64, slot: u8, key: u64) -> u64
     ensures { result ≡ head_of model slot key }
 {
@@ -93,6 +79,7 @@ fn head_of(model: u64, slot: u8, key: u64) -> u64
 }
 
 // A row after the first k of two tables, and how many there then are; no row for a word without a bit.
+#[tactic(auto, using(crate::proofs::KeptLaws::row_passed, crate::proofs::KeptLaws::row_stored))]
 fn keep_row(heads: &mut [u64], words: &mut [u64], k: usize, head: u64, word: u64) -> usize
     requires { (k < length heads.old) × (k < length words.old) }
     ensures words_after { first_rows result heads.new words.new
@@ -107,7 +94,7 @@ fn keep_row(heads: &mut [u64], words: &mut [u64], k: usize, head: u64, word: u64
     k + 1
 }
 
-// The rows of the first n node instances, at the front of two tables, and how many they are. It looks at each instance once.
+// The rows of a graph's node instances, at the front of two tables, and how many they are. It looks at each instance once.
 fn keep_rows(
     heads: &mut [u64],
     words: &mut [u64],
@@ -115,21 +102,16 @@ fn keep_rows(
     slot: u8,
     keys: &[u64],
     marks: &[u8],
-    active: &[u64],
-    child: &[u16],
-    n: usize,
+    graph: &TableGraph,
 ) -> usize
-    requires { (n ≡ table_size active.now) × (n ≤ length heads.old) × (n ≤ length words.old) }
-    ensures rows_kept { RowsKept model slot keys.now (table_graph active.now child.now) marks.now n (first_rows result heads.new words.new) }
-    ensures upper_bound { result ≤ n }
+    requires { (graph.now.size ≤ length heads.old) × (graph.now.size ≤ length words.old) }
+    ensures rows_kept { RowsKept model slot keys.now (table_graph graph.now.active.now graph.now.children.now) marks.now graph.now.size (first_rows result heads.new words.new) }
+    ensures upper_bound { result ≤ graph.now.size }
 {
     let mut k = 0;
-    let mut i = 0;
-    while i < n {
-        let word = row_word(marks, active, child, n, i);
-        let head = head_of(model, slot, key_at(keys, i));
-        k = keep_row(heads, words, k, head, word);
-        i += 1;
+    for i in 0..graph.size {
+        let head = head_of(model, slot, entry(keys, i));
+        k = keep_row(heads, words, k, head, row_word(graph, marks, i));
     }
     k
 }
@@ -151,41 +133,15 @@ pub fn keep_list(
         ≡ table_records model slot attention keys.now marks.now active.now child.now) }
     ensures few { (result ≤ library_limits.node_instances) × (result ≤ length heads.old) × (result ≤ length words.old) }
 {
-    let n = walk::size(active);
-    if heads.len() < n {
+    let graph = TableGraph::new(active, child);
+    if heads.len() < graph.size || words.len() < graph.size {
         return 0;
     }
-    if words.len() < n {
-        return 0;
-    }
-    keep_rows(heads, words, model, slot, keys, marks, active, child, n)
-}
-
-// How many rows two tables have: as many as the shorter one has places.
-fn row_count(heads: &[u64], words: &[u64]) -> usize
-    ensures { RowsIn heads.now words.now result }
-{
-    if heads.len() < words.len() {
-        return heads.len();
-    }
-    words.len()
-}
-
-// How many bits the first n rows have. It looks at each row once.
-fn count_bits(heads: &[u64], words: &[u64], n: usize) -> usize
-    requires { (n ≤ length heads.now) × (n ≤ length words.now) × (n ≤ board_node_instances) }
-    ensures { result ≡ kept_count (first_rows n heads.now words.now) }
-{
-    let mut count = 0;
-    let mut i = 0;
-    while i < n {
-        count += u64::count_ones(words[i]) as usize;
-        i += 1;
-    }
-    count
+    keep_rows(heads, words, model, slot, keys, marks, &graph)
 }
 
 // The record of a bit at a place of the list.
+// Kept: byte after byte, since an array of `to_be_bytes` and `copy_from_slice` took 1.8 times as long.
 fn put_record(list: &mut [u8], at: usize, attention: u8, head: u64, bit: u8)
     requires { at + 16 ≤ length list.old }
     ensures { list.new ≡ take at list.old ++ (head_record attention head bit ++ drop (at + 16) list.old) }
@@ -216,43 +172,84 @@ fn put_bits(list: &mut [u8], at: usize, attention: u8, head: u64, word: u64) -> 
     let mut place = at;
     let mut unwritten = word;
     while unwritten != 0 {
-        let b = numbers::next_bit(unwritten);
-        put_record(list, place, attention, head, b);
+        put_record(list, place, attention, head, numbers::next_bit(unwritten));
         place += 16;
         unwritten = numbers::without_next(unwritten);
     }
     place
 }
 
-// The records of the first n rows from the front of the list on: the place after them. It looks at each row once.
-fn put_rows(list: &mut [u8], attention: u8, heads: &[u64], words: &[u64], n: usize) -> usize
-    requires n_in_bounds { (n ≤ length heads.now) × (n ≤ length words.now) }
-    requires words_in_bounds { 16 * kept_count (first_rows n heads.now words.now) ≤ length list.old }
-    ensures { Wrote list.old list.new 0 result (kept_records attention (first_rows n heads.now words.now)) }
-{
-    let mut place = 0;
-    let mut i = 0;
-    while i < n {
-        place = put_bits(list, place, attention, heads[i], words[i]);
-        i += 1;
-    }
-    place
+// The rows of two tables: as many as the shorter one has places.
+// Kept: two tables and not one of rows, since a caller lends them and has other uses for each.
+#[derive(Clone, Copy)]
+struct Rows<'a> {
+    heads: &'a [u64],
+    words: &'a [u64],
+    ghost same_length: { length heads.now ≡ length words.now },
 }
 
-// The records of some rows, where there is room for all of them; otherwise the list keeps its bytes. With more heads than a board has node instances the answer is free.
-pub fn write_list(list: &mut [u8], attention: u8, heads: &[u64], words: &[u64]) -> Listing
+impl<'a> Rows<'a> {
+    fn new(heads: &'a [u64], words: &'a [u64]) -> Rows<'a>
+        ensures rows { rows_of result.heads.now result.words.now ≡ rows_of heads.now words.now }
+        ensures few { length result.heads.now ≤ length heads.now }
+    {
+        let n = heads.len().min(words.len());
+        Rows {
+            heads: &heads[..n],
+            words: &words[..n],
+        }
+    }
+
+    // How many bits the rows have. It looks at each row once.
+    fn count_bits(&self) -> usize
+        requires { length self.now.heads.now ≤ board_node_instances }
+        ensures { result ≡ kept_count (rows_of self.now.heads.now self.now.words.now) }
+    {
+        let mut count = 0;
+        for word in self.words {
+            count += word.count_ones() as usize;
+        }
+        count
+    }
+
+    // The records of the rows from the front of the list on: the place after them. It looks at each row once.
+    fn put(&self, list: &mut [u8], attention: u8) -> usize
+        requires { 16 * kept_count (rows_of self.now.heads.now self.now.words.now) ≤ length list.old }
+        ensures { Wrote list.old list.new 0 result (kept_records attention (rows_of self.now.heads.now self.now.words.now)) }
+    {
+        let mut place = 0;
+        for (head, word) in self.heads.iter().zip(self.words) {
+            place = put_bits(list, place, attention, *head, *word);
+        }
+        place
+    }
+}
+
+// The records of some rows, where there is room for all of them, and how many they are; otherwise refusal 19 with how many places are needed, and the list keeps its bytes. With more heads than a board has node instances the answer is free.
+pub fn write_list(
+    list: &mut [u8],
+    attention: u8,
+    heads: &[u64],
+    words: &[u64],
+) -> Result<usize, Refusal>
     ensures { length heads.now ≤ board_node_instances
         → (listing_values result ≡ listing_for (kept_count (rows_of heads.now words.now)) (length list.old))
         × (list.new ≡ list_after attention (rows_of heads.now words.now) list.old) }
 {
-    let n = row_count(heads, words);
-    if limits::BOARD_NODE_INSTANCES < n {
-        return Listing::NoRoom(0);
+    let rows = Rows::new(heads, words);
+    if limits::BOARD_NODE_INSTANCES < rows.heads.len() {
+        return Err(Refusal {
+            kind: Kind::NoRoom,
+            place: 0,
+        });
     }
-    let count = count_bits(heads, words, n);
-    if list.len() / 16 < count {
-        return Listing::NoRoom(count);
+    let records = rows.count_bits();
+    if list.len() / 16 < records {
+        return Err(Refusal {
+            kind: Kind::NoRoom,
+            place: records,
+        });
     }
-    put_rows(list, attention, heads, words, n);
-    Listing::Written(count)
+    rows.put(list, attention);
+    Ok(records)
 }

@@ -1,9 +1,7 @@
 -- A number at a place of a list of bytes. Document 01, number 2: "a field is not wholly there".
-use Rattle.std.specs.Prelude.{ℕ, ◌+◌, List, Bool, cond, length, take, drop, leb}
+use Rattle.std.specs.Prelude.{ℕ, ◌+◌, List, Bool, cond, Option, Some, None, length, take, drop, leb}
 use Rattle.numbers.specs.declared.Width.{Width}
 use Rattle.numbers.specs.declared.Width.TheVariants.{Two, Three, Four, Eight}
-use Rattle.numbers.specs.declared.NumberRead.{NumberRead}
-use Rattle.numbers.specs.declared.ByteRead.{ByteRead}
 use Rattle.numbers.specs.BigEndian.{big_endian}
 
 -- How many bytes each width has.
@@ -36,13 +34,9 @@ abbrev pub not_whole : ℕ → FieldValues
 not_whole at = record { number = 2; place = at; value = 0; next = 0 }
 
 -- The answer about the field at a place.
-abbrev pub number_values : ℕ → NumberRead → FieldValues
-number_values at (NumberRead.Number v n) = read_with v n
-number_values at NumberRead.Cut = not_whole at
-
-abbrev pub byte_values : ℕ → ByteRead → FieldValues
-byte_values at (ByteRead.Byte v n) = read_with v n
-byte_values at ByteRead.Cut = not_whole at
+abbrev pub read_values : ℕ → Option (ℕ × ℕ) → FieldValues
+read_values at (Some (v, n)) = read_with v n
+read_values at None = not_whole at
 
 -- The number of n bytes at a place with the place after them; 2 at that place where they are not wholly there.
 unfoldable pub number_at : List ℕ → ℕ → ℕ → FieldValues

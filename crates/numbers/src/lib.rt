@@ -5,7 +5,7 @@ ghost use Rattle.std.specs.Prelude.{◌≡◌, ◌≤◌, length};
 ghost use Rattle.numbers.specs.BigEndian.{big_endian};
 ghost use Rattle.numbers.specs.Bits.{not_word, and_word, or_word, left_word, right_word};
 ghost use Rattle.numbers.specs.NextBit.{next_bit, without_next, with_bit};
-ghost use Rattle.numbers.specs.Field.{size_of, number_values, byte_values, number_at};
+ghost use Rattle.numbers.specs.Field.{size_of, read_values, number_at};
 
 // How many bytes a number takes.
 #[derive(Clone, Copy)]
@@ -14,20 +14,6 @@ pub enum Width {
     Three,
     Four,
     Eight,
-}
-
-// A number with the place after it, or one that is not wholly there.
-#[derive(Clone, Copy)]
-pub enum NumberRead {
-    Number(u64, usize),
-    Cut,
-}
-
-// A byte with the place after it, or none.
-#[derive(Clone, Copy)]
-pub enum ByteRead {
-    Byte(u8, usize),
-    Cut,
 }
 
 // How many bytes a width has.
@@ -48,38 +34,32 @@ fn big_endian(s: &[u8]) -> u64
     ensures { result ≡ big_endian s.now }
 {
     let mut value: u64 = 0;
-    let mut i = 0;
-    while i < s.len() {
-        value = value * 256 + s[i] as u64;
-        i += 1;
+    for b in s {
+        value = value * 256 + u64::from(*b);
     }
     value
 }
 
-// The number at a place.
-pub fn number_at(s: &[u8], at: usize, w: Width) -> NumberRead
-    ensures { number_values at result ≡ number_at s.now at (size_of w) }
+// The number at a place with the place after it; nothing where it is not wholly there.
+#[tactic(auto, unfolding(crate::specs::Field::number_at, crate::specs::Field::present))]
+pub fn number_at(s: &[u8], at: usize, w: Width) -> Option<(u64, usize)>
+    ensures { read_values at result ≡ number_at s.now at (size_of w) }
 {
     let n = size(w);
-    if s.len() < at {
-        return NumberRead::Cut;
-    }
-    if s.len() - at < n {
-        return NumberRead::Cut;
+    if s.len() < at || s.len() - at < n {
+        return None;
     }
     let end = at + n;
-    NumberRead::Number(big_endian(&s[at..end]), end)
+    Some((big_endian(&s[at..end]), end))
 }
 
-// The byte at a place.
-pub fn byte_at(s: &[u8], at: usize) -> ByteRead
-    ensures { byte_values at result ≡ number_at s.now at 1 }
+// The byte at a place with the place after it; nothing at the end.
+#[tactic(auto, unfolding(crate::specs::Field::number_at, crate::specs::Field::present))]
+pub fn byte_at(s: &[u8], at: usize) -> Option<(u8, usize)>
+    ensures { read_values at result ≡ number_at s.now at 1 }
 {
-    if at < s.len() {
-        ByteRead::Byte(s[at], at + 1)
-    } else {
-        ByteRead::Cut
-    }
+    let b = s.get(at)?;
+    Some((*b, at + 1))
 }
 
 // The next bit of a word that has the bits not yet taken: the least of them, or 64 where none is left. Bit 0 is leftmost, so it is how many zeros the word begins with.

@@ -7,7 +7,6 @@ use native.Mathlib.Omega.{arith}
 use lib.ListN.{length, take, drop, set, length-append, length-drop, take-append-drop}
 use lib.Seq.{length-take-le, take-append-le, take-take, drop_at, set_split}
 use Rattle.numbers.specs.BigEndian.{bytes_of}
-use Rattle.numbers.proofs.BigEndianLaws.{length_bytes}
 use Rattle.packing.specs.Writing.{Back}
 
 -- Nothing was written.
@@ -47,34 +46,25 @@ pub back_one : (old : List ℕ) (i b : ℕ) {at : ℕ} → at ≡ suc i → i < 
 back_one old i b e h =
     record { content = rw e (set_split old i b h); starts = omega (arith, e); within = omega (arith, e, h) }
 
--- A number, of which no byte has been written, and all.
-pub put_start : (v n : ℕ) (old : List ℕ) (at : ℕ) → at ≤ length old → Back old old at at (bytes_of (n - n) v)
+-- A number, of which no byte has been written.
+pub number_none : (v : ℕ) (old : List ℕ) (at : ℕ) → at ≤ length old → Back old old at at (bytes_of (at - at) v)
 unfolding bytes_of
-put_start v n old at h = let e : n - n ≡ 0 = omega arith in rw e (back_none old at h)
+number_none v old at h = let e : at - at ≡ 0 = omega arith in rw e (back_none old at h)
 
-pub rest_start : (v n : ℕ) → v ≡ v / 256 ^ (n - n)
-rest_start v n = let e : n - n ≡ 0 = omega arith in rw e (omega arith)
-
-pub put_end : (v n left : ℕ) {old new : List ℕ} {at to : ℕ} → left ≤ 0 → Back old new at to (bytes_of (n - left) v) → Back old new at to (bytes_of n v)
-put_end v n left z b = let e : n - left ≡ n = omega (arith, z) in rw e at b
+pub rest_all : (v at : ℕ) → v ≡ v / 256 ^ (at - at)
+rest_all v at = let e : at - at ≡ 0 = omega arith in rw e (omega arith)
 
 -- A number, byte after byte from its last.
-module _ (v n left : ℕ) {old mid : List ℕ} {at place : ℕ} (some : 0 < left) (most : left ≤ n) (is : Back old mid at place (bytes_of (n - left) v)) where
-  pub put_within : place ≤ length mid
-  put_within = omega (arith, back_same is, is.starts, is.within)
+module _ (v : ℕ) {old mid : List ℕ} {at place rest : ℕ} (some : 0 < place) (is : Back old mid at place (bytes_of (at - place) v)) (left : rest ≡ v / 256 ^ (at - place)) where
+  one_more : at - (place - 1) ≡ suc (at - place)
+  one_more = omega (arith, is.starts)
 
-  pub put_room : n ≤ at → left ≤ place
-  put_room h = omega (arith, is.starts, length_bytes (n - left) v, most, h)
-
-  pub put_next : {rest : ℕ} → rest ≡ v / 256 ^ (n - left) → 0 < place → Back old (set mid (place - 1) (rest % 256)) at (place - 1) (bytes_of (n - (left - 1)) v)
+  pub number_next : Back old (set mid (place - 1) (rest % 256)) at (place - 1) (bytes_of (at - (place - 1)) v)
   unfolding bytes_of
-  put_next {rest} e p =
-      let k : n - (left - 1) ≡ suc (n - left) = omega (arith, some, most) in
-      let w : place ≡ suc (place - 1) = omega (arith, p) in
-      let l : place - 1 < length mid = omega (arith, p, back_same is, is.starts, is.within) in
-      rw (k, ← e) (back_more is (back_one mid (place - 1) (rest % 256) w l))
+  number_next =
+      let w : place ≡ suc (place - 1) = omega arith in
+      let l : place - 1 < length mid = omega (arith, back_same is, is.starts, is.within) in
+      rw (one_more, ← left) (back_more is (back_one mid (place - 1) (rest % 256) w l))
 
-  pub rest_next : {rest : ℕ} → rest ≡ v / 256 ^ (n - left) → rest / 256 ≡ v / 256 ^ (n - (left - 1))
-  rest_next e =
-      let k : n - (left - 1) ≡ suc (n - left) = omega (arith, some, most) in
-      rw (k, e, pow-suc) (div-div-eq-div-mul v (256 ^ (n - left)) 256)
+  pub rest_next : rest / 256 ≡ v / 256 ^ (at - (place - 1))
+  rest_next = rw (one_more, left, pow-suc) (div-div-eq-div-mul v (256 ^ (at - place)) 256)

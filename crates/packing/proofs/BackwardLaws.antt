@@ -68,12 +68,12 @@ module _ {s : List ℕ} {start n : ℕ} {old : List ℕ} {at : ℕ} {new : List 
   pub backward_known : 0 < left → Known s start (left - 1 + 1) near
   backward_known some = let e : left - 1 + 1 ≡ left = omega (arith, some) in rw e b.known
 
-  module _ {r : Record} {e : Element} {near2 : Nearest} {size : ℕ} (some : 0 < left) (within : start + 16 * n ≤ length s) (nearer : Near s start (left - 1) near2)
-      (here : r ≡ record_within s (start + 16 * (left - 1))) (is : e ≡ element_of r.kind r.form) (wide : size ≡ address_size near2.form) where
+  module _ {r : Record} {e : Element} {near2 : Nearest} {size here_at : ℕ} (some : 0 < left) (within : start + 16 * n ≤ length s) (nearer : Near s start (left - 1) near2)
+      (stands : here_at ≡ start + 16 * (left - 1)) (here : r ≡ record_within s here_at) (is : e ≡ element_of r.kind r.form) (wide : size ≡ address_size near2.form) where
     last : records_from s left start ≡ records_from s (left - 1) start ++ (r ∷ [])
     last =
         let i : left ≡ suc (left - 1) = omega (arith, some) in
-        let x : r ≡ record_at s (start + 16 * (left - 1)) = here ∙ record_there s (start + 16 * (left - 1)) (omega (arith, some, within, b.below)) in
+        let x : r ≡ record_at s (start + 16 * (left - 1)) = here ∙ ap (record_within s) stands ∙ record_there s (start + 16 * (left - 1)) (omega (arith, some, within, b.below)) in
         ap (λ k. records_from s k start) i ∙ from_last s (left - 1) start ∙ ap (λ y. records_from s (left - 1) start ++ (y ∷ [])) (sym x)
 
     address : address_size (type_after 0 (records_from s (left - 1) start)) ≡ size

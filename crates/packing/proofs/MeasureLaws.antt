@@ -4,7 +4,9 @@ use mathlib.Core.Bool.{Bool, true, false, cond}
 use mathlib.Core.List.{List, [], ◌∷◌}
 use mathlib.Core.Path.{◌≡◌, sym, ◌∙◌, ap}
 use native.Mathlib.Omega.{arith}
-use lib.ListN.{length}
+use mir.Val.{bool_byte}
+use Rattle.std.proofs.lemmas.Slice.{between_to_end}
+use lib.ListN.{length, take, drop, length-take, length-drop}
 use Rattle.format.specs.Fields.{address_size}
 use Rattle.records.specs.declared.Record.{Record}
 use Rattle.records.specs.declared.Element.{Element}
@@ -14,8 +16,8 @@ use Rattle.records.specs.Grammar.{element_of, element}
 use Rattle.records.specs.Sizes.{own_size}
 use Rattle.records.proofs.JudgingLaws.{record_there}
 use Rattle.packing.specs.Packing.{type_with, of_registers, of_roots, count_by}
-use Rattle.packing.specs.Writing.{sizes, Split}
-use Rattle.packing.proofs.SizeLaws.{from_first, from_none, from-length, sizes_most}
+use Rattle.packing.specs.Writing.{sizes}
+use Rattle.packing.proofs.SizeLaws.{from_none, from-length, from-take, from-drop, from_front, from_behind, sizes_most}
 
 -- No record is of the registers and of the roots.
 pub both_most : (rs : List Record) → count_by of_registers rs + count_by of_roots rs ≤ length rs
@@ -41,49 +43,97 @@ both_most (r ∷ rs) = go (element r) (count_by of_registers rs) (count_by of_ro
     go Root k m h = omega (arith, h)
     go Unknown k m h = omega (arith, h)
 
--- A turn at the record of a place.
-module _ (s : List ℕ) (at left : ℕ) {r : Record} {e : Element} (here : r ≡ record_within s at) (is : e ≡ element_of r.kind r.form) (some : 0 < left)
-    (within : at + 16 * left ≤ length s) where
-  first : records_from s left at ≡ r ∷ records_from s (left - 1) (at + 16)
-  first = from_first s left at some ∙ ap (λ x. x ∷ records_from s (left - 1) (at + 16)) (sym (here ∙ record_there s at (omega (arith, some, within))))
+-- The records of some bytes from one on.
+abbrev pub records_on : List ℕ → ℕ → List Record
+records_on s i = records_from s (length s / 16 - i) (16 * i)
 
-  pub count_next : (test : Element → Bool) {x : ℕ} → x ≡ cond (test e) 1 0
-      → count_by test (records_from s left at) ≡ x + count_by test (records_from s (left - 1) (at + 16))
+-- A turn at one of them.
+module _ (s : List ℕ) (i : ℕ) {r : Record} {e : Element} (turn : i < length s / 16) (here : r ≡ record_within s (16 * i)) (is : e ≡ element_of r.kind r.form) where
+  first : records_on s i ≡ r ∷ records_on s (i + 1)
+  unfolding records_from
+  first =
+      let step : length s / 16 - i ≡ suc (length s / 16 - (i + 1)) = omega arith in
+      let next : 16 * (i + 1) ≡ 16 * i + 16 = omega arith in
+      rw (step, next) (ap (λ x. x ∷ records_from s (length s / 16 - (i + 1)) (16 * i + 16)) (sym (here ∙ record_there s (16 * i) (omega arith))))
+
+  pub count_next : (test : Element → Bool) {b : Bool} → b ≡ test e → count_by test (records_on s i) ≡ bool_byte b + count_by test (records_on s (i + 1))
   unfolding count_by
-  count_next test {x} h = rw (first, ← is) (go (test e) (count_by test (records_from s (left - 1) (at + 16))) h)
+  count_next test {b} h = rw (first, ← is, ← h) (go b (count_by test (records_on s (i + 1))))
     where
-      go : (b : Bool) (k : ℕ) {x : ℕ} → x ≡ cond b 1 0 → cond b (suc k) k ≡ x + k
-      go true k h = omega (arith, h)
-      go false k h = omega (arith, h)
+      go : (b : Bool) (k : ℕ) → cond b (suc k) k ≡ bool_byte b + k
+      go true k = omega arith
+      go false k = omega arith
 
   pub measure_next : (form : ℕ) {a x f : ℕ} → a ≡ address_size form → x ≡ own_size a e → f ≡ type_with form r
-      → sizes form (records_from s left at) ≡ x + sizes f (records_from s (left - 1) (at + 16))
+      → sizes form (records_on s i) ≡ x + sizes f (records_on s (i + 1))
   unfolding sizes
   measure_next form ha hx hf = rw (first, ← is, hx, ha, hf)
 
--- Nothing is left.
-pub measure_end : (s : List ℕ) (form left at : ℕ) → left ≤ 0 → sizes form (records_from s left at) ≡ 0
-unfolding sizes
-measure_end s form left at z = rw (from_none s left at z)
+-- No record is left.
+module _ (s : List ℕ) (i : ℕ) (done : length s / 16 ≤ i) where
+  pub measure_end : (form : ℕ) → sizes form (records_on s i) ≡ 0
+  unfolding sizes
+  measure_end form = rw (from_none s (length s / 16 - i) (16 * i) (omega arith))
 
-pub sizes_bound : (s : List ℕ) (n at : ℕ) → sizes 0 (records_from s n at) ≤ 9 * n
-sizes_bound s n at = omega (arith, sizes_most 0 (records_from s n at), from-length s n at)
+  pub count_end : (test : Element → Bool) → count_by test (records_on s i) ≡ 0
+  unfolding count_by
+  count_end test = rw (from_none s (length s / 16 - i) (16 * i) (omega arith))
 
--- Counting ends with the parts of all records.
+-- All that is to be counted and measured.
 module _ (s : List ℕ) where
-  pub in_whole : count_by of_registers (records_in s) + count_by of_roots (records_in s) ≤ length s / 16
+  pub all_records : records_in s ≡ records_on s 0
   unfolding records_in whole_records
-  in_whole = omega (arith, both_most (records_from s (length s / 16) 0), from-length s (length s / 16) 0)
+  all_records = let e : length s / 16 - 0 ≡ length s / 16 = omega arith in rw e
 
-  pub split_all : (left at a c : ℕ) {b : ℕ} → left ≤ 0 → a + count_by of_registers (records_from s left at) ≡ count_by of_registers (records_in s)
-      → c + count_by of_roots (records_from s left at) ≡ count_by of_roots (records_in s) → b ≡ length s / 16 - a - c
-      → Split (records_in s) (record { registers = a; others = b; roots = c })
-  unfolding count_by records_in whole_records
-  split_all left at a c z h k e =
-      let p : a ≡ count_by of_registers (records_from s (length s / 16) 0) = omega (arith, rw (from_none s left at z) at h) in
-      let q : c ≡ count_by of_roots (records_from s (length s / 16) 0) = omega (arith, rw (from_none s left at z) at k) in
-      record {
-        registers = p;
-        roots = q;
-        all = omega (arith, p, q, e, from-length s (length s / 16) 0, both_most (records_from s (length s / 16) 0));
-      }
+  pub whole_length : length (records_in s) ≡ length s / 16
+  unfolding records_in whole_records
+  whole_length = from-length s (length s / 16) 0
+
+  pub in_whole : count_by of_registers (records_in s) + count_by of_roots (records_in s) ≤ length s / 16
+  in_whole = omega (arith, both_most (records_in s), whole_length)
+
+  pub sizes_bound : sizes 0 (records_in s) ≤ 9 * (length s / 16)
+  sizes_bound = omega (arith, sizes_most 0 (records_in s), whole_length)
+
+-- The parts of all records, by how many of them are of registers and of roots.
+module _ (s : List ℕ) {a c : ℕ} (registers : a ≡ count_by of_registers (records_in s)) (roots : c ≡ count_by of_roots (records_in s)) where
+  few : a + c ≤ length s / 16
+  few = omega (arith, in_whole s)
+
+  pub registers_cut : records_in (take (16 * a) s) ≡ take (count_by of_registers (records_in s)) (records_in s)
+  unfolding records_in whole_records
+  registers_cut =
+      let n : length (take (16 * a) s) / 16 ≡ a = simp length-take (omega (arith, few)) in
+      rw (← registers, n, from_front s (16 * a) a 0 (omega arith)) (sym (from-take s a (length s / 16) 0 (omega (arith, few))))
+
+  pub others_cut : records_in (take (16 * (length s / 16 - c) - 16 * a) (drop (16 * a) s))
+      ≡ take (length (records_in s) - count_by of_roots (records_in s) - count_by of_registers (records_in s)) (drop (count_by of_registers (records_in s)) (records_in s))
+  unfolding records_in whole_records
+  others_cut =
+      let n = length s / 16 in
+      let m = n - c - a in
+      let k = 16 * (n - c) - 16 * a in
+      let len : length (take k (drop (16 * a) s)) / 16 ≡ m = simp (length-take, length-drop) (omega (arith, few)) in
+      let these : length (records_in s) - count_by of_roots (records_in s) - count_by of_registers (records_in s) ≡ m = omega (arith, whole_length s, registers, roots) in
+      let start : 16 * a + 0 ≡ 0 + 16 * a = omega arith in
+      let cut : records_in (take k (drop (16 * a) s)) ≡ records_from s m (0 + 16 * a) =
+      rw len (from_front (drop (16 * a) s) k m 0 (omega (arith, few))) ∙ from_behind s (16 * a) m 0 ∙ ap (records_from s m) start in
+      cut
+      ∙ sym
+      (ap (λ x. take x (drop (count_by of_registers (records_in s)) (records_in s))) these
+      ∙ ap (λ x. take m (drop x (records_in s))) (sym registers)
+      ∙ ap (take m) (from-drop s a n 0 (omega (arith, few)))
+      ∙ from-take s m (n - a) (0 + 16 * a) (omega (arith, few)))
+
+  pub roots_cut : records_in (take (length s - 16 * (length s / 16 - c)) (drop (16 * (length s / 16 - c)) s)) ≡ drop (length (records_in s) - count_by of_roots (records_in s)) (records_in s)
+  unfolding records_in whole_records
+  roots_cut =
+      let n = length s / 16 in
+      let last = n - c in
+      let len : length (drop (16 * last) s) / 16 ≡ n - last = simp length-drop (omega (arith, few)) in
+      let these : length (records_in s) - count_by of_roots (records_in s) ≡ last = omega (arith, whole_length s, roots) in
+      let start : 16 * last + 0 ≡ 0 + 16 * last = omega arith in
+      ap records_in (between_to_end s (16 * last) (length s) (omega arith))
+      ∙ rw len (from_behind s (16 * last) (n - last) 0)
+      ∙ ap (records_from s (n - last)) start
+      ∙ sym (ap (λ x. drop x (records_in s)) these ∙ from-drop s last n 0 (omega arith))

@@ -34,18 +34,18 @@ module _ (s : List ℕ) (start n left : ℕ) (g : Gone s start n left) where
         here = omega arith;
       }
 
-  module _ {r : Record} (some : 0 < left) (within : start + 16 * n ≤ length s) (here : r ≡ record_within s (start + 16 * (left - 1))) where
+  module _ {r : Record} {at : ℕ} (some : 0 < left) (within : start + 16 * n ≤ length s) (place : at ≡ start + 16 * (left - 1)) (here : r ≡ record_within s at) where
     last-type : type_after 0 (records_from s left start) ≡ type_with (type_after 0 (records_from s (left - 1) start)) r
     last-type =
         let e : left ≡ suc (left - 1) = omega (arith, some) in
-        let x : r ≡ record_at s (start + 16 * (left - 1)) = here ∙ record_there s (start + 16 * (left - 1)) (omega (arith, some, within, g.below)) in
+        let x : r ≡ record_at s (start + 16 * (left - 1)) = here ∙ ap (record_within s) place ∙ record_there s (start + 16 * (left - 1)) (omega (arith, some, within, g.below)) in
         ap (λ i. type_after 0 (records_from s i start)) e
         ∙ ap (type_after 0) (from_last s (left - 1) start)
         ∙ type_last 0 (records_from s (left - 1) start) (record_at s (start + 16 * (left - 1)))
         ∙ ap (type_with (type_after 0 (records_from s (left - 1) start))) (sym x)
 
-    pub near_found : r.kind ≡ 1 → Near s start n (record { since = left; form = r.form })
-    near_found k =
+    near_here : r.kind ≡ 1 → Near s start n (record { since = left; form = r.form })
+    near_here k =
         record {
           known =
               record {
@@ -54,6 +54,9 @@ module _ (s : List ℕ) (start n left : ℕ) (g : Gone s start n left) where
               };
           here = g.below;
         }
+
+    pub near_found : r.kind ≡ 1 → {since : ℕ} → since ≡ left → Near s start n (record { since = since; form = r.form })
+    near_found k e = rw e (near_here k)
 
     pub gone_next : (r.kind ≡ 1 → ⊥) → Gone s start n (left - 1)
     gone_next k =

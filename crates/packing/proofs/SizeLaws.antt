@@ -1,11 +1,18 @@
 -- Packing one part after another, and how many bytes that makes.
-use Prim.Native.Nat.{ℕ, zero, suc, ◌+◌, ◌-◌, ◌*◌, ◌≤◌, ◌<◌}
+use Prim.Native.Nat.{ℕ, zero, suc, ◌+◌, ◌-◌, ◌*◌, ◌≤◌}
 use mathlib.Core.Bool.{Bool, true, false, cond}
 use mathlib.Core.List.{List, [], ◌∷◌, ◌++◌, append_assoc}
 use mathlib.Core.Path.{◌≡◌, refl, sym, ◌∙◌, ap}
 use native.Mathlib.Omega.{arith}
+use borrow.Author.Tests.{eq-eqb, ne_eqb}
 use lib.Dec.{eqb}
+use native.Mathlib.Nat.{add_assoc}
 use lib.ListN.{length, take, drop, length-append}
+use lib.Seq.{take-take}
+use Rattle.std.proofs.lemmas.List.{drop-take}
+use Rattle.numbers.specs.BigEndian.{big_endian}
+use Rattle.numbers.specs.Field.{field}
+use Rattle.numbers.proofs.FieldLaws.{field-drop}
 use Rattle.format.specs.Fields.{address_size}
 use Rattle.records.specs.declared.Record.{Record}
 use Rattle.records.specs.declared.Element.{Element}
@@ -87,16 +94,39 @@ module _ (s : List ℕ) where
       let f : at + 16 * suc k ≡ at + 16 + 16 * k = omega arith in
       rw (e, f) (from-drop k n (at + 16) (omega (arith, h)))
 
-  -- The first of some, and those behind it.
-  pub from_first : (n at : ℕ) → 0 < n → records_from s n at ≡ record_at s at ∷ records_from s (n - 1) (at + 16)
-  unfolding records_from
-  from_first zero at h = absurd (omega (arith, h))
-  from_first (suc n) at h = let e : suc n - 1 ≡ n = omega arith in rw e
-
+  -- There is none.
   pub from_none : (n at : ℕ) → n ≤ 0 → records_from s n at ≡ []
   unfolding records_from
   from_none zero at h = refl
   from_none (suc n) at h = absurd (omega (arith, h))
+
+-- The records of a part of some bytes.
+field-take : (s : List ℕ) (m at n : ℕ) → at + n ≤ m → field (take m s) at n ≡ field s at n
+unfolding field
+field-take s m at n h =
+    let l : n ≤ m - at = omega arith in
+    let e : m ≡ at + (m - at) = omega arith in
+    ap (λ k. big_endian (take n (drop at (take k s)))) e ∙ rw (drop-take, take-take n (m - at) (drop at s) l)
+
+pub from_front : (s : List ℕ) (m n at : ℕ) → at + 16 * n ≤ m → records_from (take m s) n at ≡ records_from s n at
+unfolding records_from record_at
+from_front s m zero at h = refl
+from_front s m (suc n) at h =
+    rw (
+      field-take s m at 1 (omega arith),
+      field-take s m (at + 1) 1 (omega arith),
+      field-take s m (at + 2) 1 (omega arith),
+      field-take s m (at + 3) 1 (omega arith),
+      field-take s m (at + 4) 4 (omega arith),
+      field-take s m (at + 8) 8 (omega arith),
+      from_front s m n (at + 16) (omega arith),
+    )
+
+pub from_behind : (s : List ℕ) (k n at : ℕ) → records_from (drop k s) n at ≡ records_from s n (k + at)
+unfolding records_from record_at
+from_behind s k zero at = refl
+from_behind s k (suc n) at =
+    simp (field-drop, from_behind s k n (at + 16), ← add_assoc)
 
 -- Only a register changes the type.
 module _ (t : ℕ) (r : Record) where
@@ -126,3 +156,6 @@ module _ (t : ℕ) (r : Record) where
       (kept (eqb r.form 19) _ _ refl
       (kept (eqb r.form 20) _ _ refl refl)))))))
       (kept (eqb r.kind 8) _ _ refl (kept (eqb r.kind 9) _ _ refl refl))))))))
+
+-- Those, by what a test says of the kind.
+pub ruleset type_changes = (type_register, type_other, eq-eqb, ne_eqb)

@@ -9,11 +9,12 @@ use Rattle.records.specs.Record.{records_from, records_in, at_front}
 use Rattle.records.specs.Grammar.{element}
 use Rattle.records.specs.Sizes.{own_size}
 use Rattle.packing.specs.declared.Counts.{Counts}
-use Rattle.packing.specs.declared.Pieces.{Pieces}
 use Rattle.packing.specs.declared.Parts.{Parts}
 use Rattle.packing.specs.declared.Nearest.{Nearest}
 use Rattle.packing.specs.declared.Written.{Written}
-use Rattle.packing.specs.Packing.{packed_of, type_with, pack, none, of_registers, of_roots, count_by, file_of}
+use Rattle.packing.specs.declared.Section.{Section}
+use Rattle.format.specs.Encoding.{encode_start}
+use Rattle.packing.specs.Packing.{packed_of, type_with, pack, none, roots_section, nodes_section, registers_section, of_registers, of_roots, count_by, file_of}
 
 -- An output with the file at its front, where there is room for it; otherwise as it was.
 unfoldable pub packed_in : ℕ → List ℕ → List ℕ → List ℕ
@@ -36,42 +37,63 @@ file_size rs =
     let last = length rs - count_by of_roots rs in
     31 + (sizes 0 (take first rs) + (sizes 0 (take (last - first) (drop first rs)) + sizes 0 (drop last rs)))
 
--- The records of the three sections: how many there are of registers and of roots, and all others between them.
+-- The records of the three sections: those of registers, those of roots, and all others between them.
 pub record Split (rs : List Record) (p : Parts) : Type 0 where
-  pub registers : p.registers ≡ count_by of_registers rs
-  pub roots : p.roots ≡ count_by of_roots rs
-  pub all : p.registers + p.others + p.roots ≡ length rs
+  pub registers : records_in p.registers.now ≡ take (count_by of_registers rs) rs
+  pub others : records_in p.others.now ≡ take (length rs - count_by of_roots rs - count_by of_registers rs) (drop (count_by of_registers rs) rs)
+  pub roots : records_in p.roots.now ≡ drop (length rs - count_by of_roots rs) rs
 
--- An element as at most four numbers, each in so many bytes; those that it does not have are first, in no byte.
-abbrev pub pieces_by : ℕ → ℕ → ℕ → ℕ → ℕ → ℕ → ℕ → ℕ → Pieces
-pieces_by a x b y c z d w =
-    record { first_size = a; first = x; second_size = b; second = y; third_size = c; third = z; fourth_size = d; fourth = w }
+-- A section by its records, with nothing behind it, and how many bytes its keyword and its count have.
+abbrev pub section_of : Section → List Record → List ℕ
+section_of Section.Registers rs = registers_section rs []
+section_of Section.Nodes rs = nodes_section rs []
+section_of Section.Roots rs = roots_section rs
 
-abbrev pub pieces_of : ℕ → Counts → Element → Record → Pieces
-pieces_of size c Register r = pieces_by 3 r.id 1 r.form 1 r.amount 1 c.register_instances
-pieces_of size c RegisterInstance r = pieces_by 0 0 0 0 1 r.number size r.value
-pieces_of size c Node r = pieces_by 0 0 2 r.id 1 r.form 1 c.node_instances
-pieces_of size c NodeInstance r = pieces_by 1 r.number 1 c.captures 1 c.rules 1 c.children
-pieces_of size c Capture r = pieces_by 0 0 0 0 3 r.id 1 r.number
-pieces_of size c Rule r = pieces_by 0 0 0 0 0 0 1 r.form
-pieces_of size c Reading r = pieces_by 0 0 1 r.form 3 r.id 1 r.number
-pieces_of size c Constant r = pieces_by 0 0 0 0 1 r.form 8 r.value
-pieces_of size c All r = pieces_by 0 0 0 0 1 r.form 1 r.amount
-pieces_of size c Any r = pieces_by 0 0 0 0 1 r.form 1 r.amount
-pieces_of size c Inverse r = pieces_by 0 0 0 0 0 0 1 r.form
-pieces_of size c Left r = pieces_by 0 0 0 0 1 r.form 1 r.amount
-pieces_of size c Right r = pieces_by 0 0 0 0 1 r.form 1 r.amount
-pieces_of size c Child r = pieces_by 0 0 1 r.amount 2 r.id 1 r.number
-pieces_of size c Root r = pieces_by 0 0 1 r.form 2 r.id 1 r.number
-pieces_of size c Unknown r = pieces_by 0 0 0 0 0 0 0 0
+abbrev pub head_size : Section → ℕ
+head_size Section.Registers = 7
+head_size Section.Nodes = 6
+head_size Section.Roots = 5
 
-abbrev pub piece_size : Pieces → ℕ
-piece_size p = p.first_size + (p.second_size + (p.third_size + p.fourth_size))
+-- The file by the records of its sections, and how many bytes it has.
+abbrev pub parts_size : Parts → ℕ
+parts_size p = 31 + (sizes 0 (records_in p.registers.now) + (sizes 0 (records_in p.others.now) + sizes 0 (records_in p.roots.now)))
 
-unfoldable pub piece_bytes : Pieces → List ℕ
-piece_bytes p =
-    bytes_of p.first_size p.first
-    ++ (bytes_of p.second_size p.second ++ (bytes_of p.third_size p.third ++ bytes_of p.fourth_size p.fourth))
+abbrev pub parts_file : ℕ → Parts → List ℕ
+parts_file model p =
+    encode_start model
+    ++ (section_of Section.Registers (records_in p.registers.now)
+    ++ (section_of Section.Nodes (records_in p.others.now) ++ section_of Section.Roots (records_in p.roots.now)))
+
+-- An element as at most four numbers, each behind how many bytes it takes; those that it does not have are first, in no byte.
+abbrev pub no_piece : ℕ × ℕ
+no_piece = (0, 0)
+
+abbrev pub pieces_of : ℕ → Counts → Element → Record → List (ℕ × ℕ)
+pieces_of size c Register r = (3, r.id) ∷ (1, r.form) ∷ (1, r.amount) ∷ (1, c.register_instances) ∷ []
+pieces_of size c RegisterInstance r = no_piece ∷ no_piece ∷ (1, r.number) ∷ (size, r.value) ∷ []
+pieces_of size c Node r = no_piece ∷ (2, r.id) ∷ (1, r.form) ∷ (1, c.node_instances) ∷ []
+pieces_of size c NodeInstance r = (1, r.number) ∷ (1, c.captures) ∷ (1, c.rules) ∷ (1, c.children) ∷ []
+pieces_of size c Capture r = no_piece ∷ no_piece ∷ (3, r.id) ∷ (1, r.number) ∷ []
+pieces_of size c Rule r = no_piece ∷ no_piece ∷ no_piece ∷ (1, r.form) ∷ []
+pieces_of size c Reading r = no_piece ∷ (1, r.form) ∷ (3, r.id) ∷ (1, r.number) ∷ []
+pieces_of size c Constant r = no_piece ∷ no_piece ∷ (1, r.form) ∷ (8, r.value) ∷ []
+pieces_of size c All r = no_piece ∷ no_piece ∷ (1, r.form) ∷ (1, r.amount) ∷ []
+pieces_of size c Any r = no_piece ∷ no_piece ∷ (1, r.form) ∷ (1, r.amount) ∷ []
+pieces_of size c Inverse r = no_piece ∷ no_piece ∷ no_piece ∷ (1, r.form) ∷ []
+pieces_of size c Left r = no_piece ∷ no_piece ∷ (1, r.form) ∷ (1, r.amount) ∷ []
+pieces_of size c Right r = no_piece ∷ no_piece ∷ (1, r.form) ∷ (1, r.amount) ∷ []
+pieces_of size c Child r = no_piece ∷ (1, r.amount) ∷ (2, r.id) ∷ (1, r.number) ∷ []
+pieces_of size c Root r = no_piece ∷ (1, r.form) ∷ (2, r.id) ∷ (1, r.number) ∷ []
+pieces_of size c Unknown r = no_piece ∷ no_piece ∷ no_piece ∷ no_piece ∷ []
+
+-- How many bytes such numbers take, and these bytes.
+abbrev pub pieces_size : List (ℕ × ℕ) → ℕ
+pieces_size [] = 0
+pieces_size (p ∷ ps) = p.0 + pieces_size ps
+
+unfoldable pub pieces_bytes : List (ℕ × ℕ) → List ℕ
+pieces_bytes [] = []
+pieces_bytes (p ∷ ps) = bytes_of p.0 p.1 ++ pieces_bytes ps
 
 -- Bytes that were written so that they end before the place `at`: they start at `to`, and the rest is as it was.
 pub record Back (old new : List ℕ) (at to : ℕ) (bs : List ℕ) : Type 0 where

@@ -1,13 +1,13 @@
 // A chip data file from its records, written from the end: an element's counts are known when its record is met.
 #![tactic(auto)]
 
-ghost use Rattle.std.specs.Prelude.{cond, [], ◌++◌, ◌≡◌, ◌+◌, ◌*◌, ◌^◌, ◌≤◌, length};
+ghost use Rattle.std.specs.Prelude.{◌++◌, ◌≡◌, ◌+◌, ◌*◌, ◌^◌, ◌≤◌, length};
 ghost use Rattle.numbers.specs.BigEndian.{bytes_of};
 ghost use Rattle.format.specs.Encoding.{encode_start};
-ghost use Rattle.records.specs.Record.{records_from, records_in};
+ghost use Rattle.records.specs.Record.{records_in};
 ghost use Rattle.records.specs.Sizes.{own_size};
-ghost use Rattle.packing.specs.Packing.{own_bytes, counting, type_with, roots_section, nodes_section, registers_section, of_registers, of_roots, file_of};
-ghost use Rattle.packing.specs.Writing.{packed_in, sizes, file_size, Split, pieces_by, pieces_of, piece_size, piece_bytes, Back, Few, Known, Near, PartBack};
+ghost use Rattle.packing.specs.Packing.{own_bytes, counting, type_with, of_registers, of_roots, file_of};
+ghost use Rattle.packing.specs.Writing.{packed_in, sizes, Split, pieces_of, pieces_size, pieces_bytes, Back, Few, Known, Near, PartBack, head_size, section_of, parts_size, parts_file};
 
 use records::{Element, Record, address_size, element_of, own_size, record_at};
 
@@ -24,25 +24,32 @@ pub struct Counts {
     pub roots: u64,
 }
 
-// Four numbers, each in so many bytes.
+// Where nothing stands behind.
+const NONE: Counts = Counts {
+    register_instances: 0,
+    registers: 0,
+    captures: 0,
+    rules: 0,
+    children: 0,
+    node_instances: 0,
+    nodes: 0,
+    roots: 0,
+};
+
+// The records of registers and of roots, and the others between them.
 #[derive(Clone, Copy)]
-pub struct Pieces {
-    pub first_size: u8,
-    pub first: u64,
-    pub second_size: u8,
-    pub second: u64,
-    pub third_size: u8,
-    pub third: u64,
-    pub fourth_size: u8,
-    pub fourth: u64,
+pub struct Parts<'a> {
+    pub registers: &'a [u8],
+    pub others: &'a [u8],
+    pub roots: &'a [u8],
 }
 
-// How many records there are of registers and of roots, and how many others between them.
+// The sections of a file.
 #[derive(Clone, Copy)]
-pub struct Parts {
-    pub registers: usize,
-    pub others: usize,
-    pub roots: usize,
+pub enum Section {
+    Registers,
+    Nodes,
+    Roots,
 }
 
 // A register type, and the first record of a part from which on it is that of the last register before, up to the record at hand.
@@ -59,79 +66,43 @@ pub struct Written {
     pub counts: Counts,
 }
 
-// One for a record of the registers' section.
-fn of_registers(e: Element) -> usize
-    ensures { result ≡ cond (of_registers e) 1 0 }
+// Whether a record is of the registers' section.
+fn is_of_registers(e: Element) -> bool
+    ensures { result ≡ of_registers e }
 {
-    match e {
-        Element::Register => 1,
-        Element::RegisterInstance => 1,
-        Element::Node => 0,
-        Element::NodeInstance => 0,
-        Element::Capture => 0,
-        Element::Rule => 0,
-        Element::Reading => 0,
-        Element::Constant => 0,
-        Element::All => 0,
-        Element::Any => 0,
-        Element::Inverse => 0,
-        Element::Left => 0,
-        Element::Right => 0,
-        Element::Child => 0,
-        Element::Root => 0,
-        Element::Unknown => 0,
-    }
+    matches!(e, Element::Register | Element::RegisterInstance)
 }
 
-// One for a record of the roots' section.
-fn of_roots(e: Element) -> usize
-    ensures { result ≡ cond (of_roots e) 1 0 }
+// Whether a record is of the roots' section.
+fn is_of_roots(e: Element) -> bool
+    ensures { result ≡ of_roots e }
 {
-    match e {
-        Element::Register => 0,
-        Element::RegisterInstance => 0,
-        Element::Node => 0,
-        Element::NodeInstance => 0,
-        Element::Capture => 0,
-        Element::Rule => 0,
-        Element::Reading => 0,
-        Element::Constant => 0,
-        Element::All => 0,
-        Element::Any => 0,
-        Element::Inverse => 0,
-        Element::Left => 0,
-        Element::Right => 0,
-        Element::Child => 0,
-        Element::Root => 1,
-        Element::Unknown => 0,
-    }
+    matches!(e, Element::Root)
 }
 
-// How many records each section has. It looks at each record once.
-fn split(records: &[u8]) -> Parts
+// The records of each section. It looks at each record once.
+#[tactic(auto, using(crate::proofs::MeasureLaws::in_whole))]
+fn split(records: &[u8]) -> Parts<'_>
     ensures { Split (records_in records.now) result }
 {
     let n = records.len() / 16;
-    let mut left = n;
-    let mut at = 0;
     let mut registers = 0;
     let mut roots = 0;
-    while 0 < left {
-        let r = record_at(records, at);
+    for i in 0..n {
+        let r = record_at(records, 16 * i);
         let e = element_of(r.kind, r.form);
-        registers += of_registers(e);
-        roots += of_roots(e);
-        left -= 1;
-        at += 16;
+        registers += usize::from(is_of_registers(e));
+        roots += usize::from(is_of_roots(e));
     }
     Parts {
-        registers,
-        others: n - registers - roots,
-        roots,
+        registers: &records[..16 * registers],
+        others: &records[16 * registers..16 * (n - roots)],
+        roots: &records[16 * (n - roots)..],
     }
 }
 
 // The type of the last register, with a record more.
+#[tactic(auto, using(crate::proofs::SizeLaws::type_changes))]
 fn form_with(form: u8, r: Record) -> u8
     ensures { result ≡ type_with form r }
 {
@@ -139,34 +110,37 @@ fn form_with(form: u8, r: Record) -> u8
 }
 
 // How many bytes the elements of a part are. It looks at each record once.
-fn measure(records: &[u8], start: usize, n: usize) -> usize
-    requires { start + 16 * n ≤ length records.now }
-    ensures { result ≡ sizes 0 (records_from records.now n start) }
+fn measure(part: &[u8]) -> usize
+    ensures { result ≡ sizes 0 (records_in part.now) }
 {
-    let mut left = n;
-    let mut at = start;
     let mut form = 0;
     let mut size = 0;
-    while 0 < left {
-        let r = record_at(records, at);
+    for i in 0..part.len() / 16 {
+        let r = record_at(part, 16 * i);
         let e = element_of(r.kind, r.form);
         size += own_size(address_size(form), e);
         form = form_with(form, r);
-        left -= 1;
-        at += 16;
     }
     size
 }
 
 // How many bytes the file has.
-fn measured(records: &[u8], p: Parts) -> usize
-    requires { Split (records_in records.now) p }
-    ensures { result ≡ file_size (records_in records.now) }
+#[tactic(auto, using(crate::proofs::MeasureLaws::sizes_bound))]
+fn measured(p: Parts) -> usize
+    ensures { result ≡ parts_size p.entry }
 {
-    let a = measure(records, 0, p.registers);
-    let b = measure(records, 16 * p.registers, p.others);
-    let c = measure(records, 16 * (p.registers + p.others), p.roots);
-    31 + a + b + c
+    31 + measure(p.registers) + measure(p.others) + measure(p.roots)
+}
+
+// Some bytes that end before a place: where they start.
+// Kept: the output and the place are two parameters, since of a struct of them each contract would have to say besides that it still holds the same lent output.
+fn put_bytes(out: &mut [u8], at: usize, bytes: &[u8]) -> usize
+    requires { (length bytes.now ≤ at) × (at ≤ length out.old) }
+    ensures { Back out.old out.new at result bytes.now }
+{
+    let start = at - bytes.len();
+    out[start..at].copy_from_slice(bytes);
+    start
 }
 
 // A number in n bytes that end before a place: where they start.
@@ -174,68 +148,49 @@ fn put_back(out: &mut [u8], at: usize, n: u8, v: u64) -> usize
     requires { (n ≤ at) × (at ≤ length out.old) }
     ensures { Back out.old out.new at result (bytes_of n v) }
 {
-    let mut place = at;
-    let mut left = n;
+    let start = at - n as usize;
     let mut rest = v;
-    while 0 < left {
-        place -= 1;
+    for place in (start..at).rev() {
         out[place] = (rest % 256) as u8;
         rest /= 256;
-        left -= 1;
+    }
+    start
+}
+
+// Numbers, each in so many bytes, that end before a place: where they start.
+fn put_pieces(out: &mut [u8], at: usize, pieces: [(u8, u64); 4]) -> usize
+    requires { (pieces_size pieces ≤ at) × (at ≤ length out.old) }
+    ensures { Back out.old out.new at result (pieces_bytes pieces) }
+{
+    let mut place = at;
+    for i in (0..4).rev() {
+        let (n, v) = pieces[i];
+        place = put_back(out, place, n, v);
     }
     place
 }
 
-// Four numbers that end before a place: where they start.
-fn put_pieces(out: &mut [u8], at: usize, p: Pieces) -> usize
-    requires { (piece_size p ≤ at) × (at ≤ length out.old) }
-    ensures { Back out.old out.new at result (piece_bytes p) }
-{
-    let c = put_back(out, at, p.fourth_size, p.fourth);
-    let b = put_back(out, c, p.third_size, p.third);
-    let a = put_back(out, b, p.second_size, p.second);
-    put_back(out, a, p.first_size, p.first)
-}
-
-fn four(a: u8, x: u64, b: u8, y: u64, c: u8, z: u64, d: u8, w: u64) -> Pieces
-    ensures { result ≡ pieces_by a x b y c z d w }
-{
-    Pieces {
-        first_size: a,
-        first: x,
-        second_size: b,
-        second: y,
-        third_size: c,
-        third: z,
-        fourth_size: d,
-        fourth: w,
-    }
-}
-
-// An element's own numbers.
-fn pieces_of(size: u8, c: Counts, e: Element, r: Record) -> Pieces
+// An element's own numbers, each with how many bytes it takes.
+fn pieces_of(size: u8, c: Counts, e: Element, r: Record) -> [(u8, u64); 4]
     ensures { result ≡ pieces_of size c e r }
 {
-    let form = r.form as u64;
-    let amount = r.amount as u64;
-    let number = r.number as u64;
+    let form = (1, r.form as u64);
+    let amount = (1, r.amount as u64);
+    let number = (1, r.number as u64);
+    let none = (0, 0);
     match e {
-        Element::Register => four(3, r.id, 1, form, 1, amount, 1, c.register_instances),
-        Element::RegisterInstance => four(0, 0, 0, 0, 1, number, size, r.value),
-        Element::Node => four(0, 0, 2, r.id, 1, form, 1, c.node_instances),
-        Element::NodeInstance => four(1, number, 1, c.captures, 1, c.rules, 1, c.children),
-        Element::Capture => four(0, 0, 0, 0, 3, r.id, 1, number),
-        Element::Rule => four(0, 0, 0, 0, 0, 0, 1, form),
-        Element::Reading => four(0, 0, 1, form, 3, r.id, 1, number),
-        Element::Constant => four(0, 0, 0, 0, 1, form, 8, r.value),
-        Element::All => four(0, 0, 0, 0, 1, form, 1, amount),
-        Element::Any => four(0, 0, 0, 0, 1, form, 1, amount),
-        Element::Inverse => four(0, 0, 0, 0, 0, 0, 1, form),
-        Element::Left => four(0, 0, 0, 0, 1, form, 1, amount),
-        Element::Right => four(0, 0, 0, 0, 1, form, 1, amount),
-        Element::Child => four(0, 0, 1, amount, 2, r.id, 1, number),
-        Element::Root => four(0, 0, 1, form, 2, r.id, 1, number),
-        Element::Unknown => four(0, 0, 0, 0, 0, 0, 0, 0),
+        Element::Register => [(3, r.id), form, amount, (1, c.register_instances)],
+        Element::RegisterInstance => [none, none, number, (size, r.value)],
+        Element::Node => [none, (2, r.id), form, (1, c.node_instances)],
+        Element::NodeInstance => [number, (1, c.captures), (1, c.rules), (1, c.children)],
+        Element::Capture => [none, none, (3, r.id), number],
+        Element::Rule | Element::Inverse => [none, none, none, form],
+        Element::Reading => [none, form, (3, r.id), number],
+        Element::Constant => [none, none, form, (8, r.value)],
+        Element::All | Element::Any | Element::Left | Element::Right => [none, none, form, amount],
+        Element::Child => [none, amount, (2, r.id), number],
+        Element::Root => [none, form, (2, r.id), number],
+        Element::Unknown => [none, none, none, none],
     }
 }
 
@@ -247,169 +202,117 @@ fn put_own(out: &mut [u8], at: usize, size: u8, c: Counts, e: Element, r: Record
     put_pieces(out, at, pieces_of(size, c, e, r))
 }
 
-// The counts with an element more.
-fn counting(c: Counts, e: Element) -> Counts
-    requires { Few (2 ^ 60) c }
-    ensures { result ≡ counting c e }
-{
-    match e {
-        Element::Register => Counts {
-            register_instances: 0,
-            registers: c.registers + 1,
-            captures: c.captures,
-            rules: c.rules,
-            children: c.children,
-            node_instances: c.node_instances,
-            nodes: c.nodes,
-            roots: c.roots,
-        },
-        Element::RegisterInstance => Counts {
-            register_instances: c.register_instances + 1,
-            registers: c.registers,
-            captures: c.captures,
-            rules: c.rules,
-            children: c.children,
-            node_instances: c.node_instances,
-            nodes: c.nodes,
-            roots: c.roots,
-        },
-        Element::Node => Counts {
-            register_instances: c.register_instances,
-            registers: c.registers,
-            captures: c.captures,
-            rules: c.rules,
-            children: c.children,
-            node_instances: 0,
-            nodes: c.nodes + 1,
-            roots: c.roots,
-        },
-        Element::NodeInstance => Counts {
-            register_instances: c.register_instances,
-            registers: c.registers,
-            captures: 0,
-            rules: 0,
-            children: 0,
-            node_instances: c.node_instances + 1,
-            nodes: c.nodes,
-            roots: c.roots,
-        },
-        Element::Capture => Counts {
-            register_instances: c.register_instances,
-            registers: c.registers,
-            captures: c.captures + 1,
-            rules: c.rules,
-            children: c.children,
-            node_instances: c.node_instances,
-            nodes: c.nodes,
-            roots: c.roots,
-        },
-        Element::Rule => Counts {
-            register_instances: c.register_instances,
-            registers: c.registers,
-            captures: c.captures,
-            rules: c.rules + 1,
-            children: c.children,
-            node_instances: c.node_instances,
-            nodes: c.nodes,
-            roots: c.roots,
-        },
-        Element::Reading => c,
-        Element::Constant => c,
-        Element::All => c,
-        Element::Any => c,
-        Element::Inverse => c,
-        Element::Left => c,
-        Element::Right => c,
-        Element::Child => Counts {
-            register_instances: c.register_instances,
-            registers: c.registers,
-            captures: c.captures,
-            rules: c.rules,
-            children: c.children + 1,
-            node_instances: c.node_instances,
-            nodes: c.nodes,
-            roots: c.roots,
-        },
-        Element::Root => Counts {
-            register_instances: c.register_instances,
-            registers: c.registers,
-            captures: c.captures,
-            rules: c.rules,
-            children: c.children,
-            node_instances: c.node_instances,
-            nodes: c.nodes,
-            roots: c.roots + 1,
-        },
-        Element::Unknown => c,
+impl Counts {
+    // The counts with an element more.
+    fn counting(self, e: Element) -> Counts
+        requires { Few (2 ^ 60) self }
+        ensures { result ≡ counting self e }
+    {
+        match e {
+            Element::Register => Counts {
+                registers: self.registers + 1,
+                register_instances: 0,
+                ..self
+            },
+            Element::RegisterInstance => Counts {
+                register_instances: self.register_instances + 1,
+                ..self
+            },
+            Element::Node => Counts {
+                nodes: self.nodes + 1,
+                node_instances: 0,
+                ..self
+            },
+            Element::NodeInstance => Counts {
+                node_instances: self.node_instances + 1,
+                captures: 0,
+                rules: 0,
+                children: 0,
+                ..self
+            },
+            Element::Capture => Counts {
+                captures: self.captures + 1,
+                ..self
+            },
+            Element::Rule => Counts {
+                rules: self.rules + 1,
+                ..self
+            },
+            Element::Child => Counts {
+                children: self.children + 1,
+                ..self
+            },
+            Element::Root => Counts {
+                roots: self.roots + 1,
+                ..self
+            },
+            Element::Reading
+            | Element::Constant
+            | Element::All
+            | Element::Any
+            | Element::Inverse
+            | Element::Left
+            | Element::Right
+            | Element::Unknown => self,
+        }
     }
 }
 
 // The last register among the first so many records of a part: its type, and from where on it is the last. It looks at each record once, from the last to the register.
-fn look_back(records: &[u8], start: usize, n: usize) -> Nearest
-    requires { start + 16 * n ≤ length records.now }
-    ensures { Near records.now start n result }
+fn look_back(part: &[u8], n: usize) -> Nearest
+    requires { 16 * n ≤ length part.now }
+    ensures { Near part.now 0 n result }
 {
-    let mut left = n;
-    while 0 < left {
-        let r = record_at(records, start + 16 * (left - 1));
+    for i in (0..n).rev() {
+        let r = record_at(part, 16 * i);
         if r.kind == 1 {
             return Nearest {
-                since: left,
+                since: i + 1,
                 form: r.form,
             };
         }
-        left -= 1;
     }
     Nearest { since: 0, form: 0 }
 }
 
 // The same, where it may be known already.
-fn form_before(records: &[u8], start: usize, n: usize, known: Nearest) -> Nearest
-    requires { (start + 16 * n ≤ length records.now) × Known records.now start (n + 1) known }
-    ensures { Near records.now start n result }
+fn form_before(part: &[u8], n: usize, known: Nearest) -> Nearest
+    requires { (16 * n ≤ length part.now) × Known part.now 0 (n + 1) known }
+    ensures { Near part.now 0 n result }
 {
     if known.since <= n {
-        return known;
+        known
+    } else {
+        look_back(part, n)
     }
-    look_back(records, start, n)
 }
 
 // The elements of a part before a place, from the last to the first. It looks at each record twice: once to write it, and once for the type of the register before it.
-fn put_part(out: &mut [u8], at: usize, records: &[u8], start: usize, n: usize) -> Written
-    requires { (sizes 0 (records_from records.now n start) ≤ at) × (at ≤ length out.old) × (start + 16 * n ≤ length records.now) }
-    ensures { PartBack (records_from records.now n start) out.old out.new at result }
+fn put_part(out: &mut [u8], at: usize, part: &[u8]) -> Written
+    requires { (sizes 0 (records_in part.now) ≤ at) × (at ≤ length out.old) }
+    ensures { PartBack (records_in part.now) out.old out.new at result }
 {
+    let n = part.len() / 16;
     let mut place = at;
-    let mut left = n;
     let mut near = Nearest { since: n, form: 0 };
-    let mut counts = Counts {
-        register_instances: 0,
-        registers: 0,
-        captures: 0,
-        rules: 0,
-        children: 0,
-        node_instances: 0,
-        nodes: 0,
-        roots: 0,
-    };
-    while 0 < left {
-        left -= 1;
-        near = form_before(records, start, left, near);
-        let r = record_at(records, start + 16 * left);
+    let mut counts = NONE;
+    for i in (0..n).rev() {
+        near = form_before(part, i, near);
+        let r = record_at(part, 16 * i);
         let e = element_of(r.kind, r.form);
         place = put_own(out, place, address_size(near.form), counts, e, r);
-        counts = counting(counts, e);
+        counts = counts.counting(e);
     }
     Written { at: place, counts }
 }
 
-// A keyword of four letters and a count before a place: where they start.
-fn put_head(out: &mut [u8], at: usize, word: u64, size: u8, count: u64) -> usize
-    requires { (4 + size ≤ at) × (at ≤ length out.old) }
-    ensures { Back out.old out.new at result (bytes_of 4 word ++ bytes_of size count) }
+// A keyword and a count before a place: where they start.
+fn put_head(out: &mut [u8], at: usize, word: &[u8], size: u8, count: u64) -> usize
+    requires { (length word.now + size ≤ at) × (at ≤ length out.old) }
+    ensures { Back out.old out.new at result (word.now ++ bytes_of size count) }
 {
     let a = put_back(out, at, size, count);
-    put_back(out, a, 4, word)
+    put_bytes(out, a, word)
 }
 
 // "CHIPDATA", the model/level and version 1 before a place: where they start.
@@ -419,47 +322,30 @@ fn put_start(out: &mut [u8], at: usize, model: u32) -> usize
 {
     let b = put_back(out, at, 1, 1);
     let a = put_back(out, b, 4, model as u64);
-    put_back(out, a, 8, 0x4348_4950_4441_5441)
+    put_bytes(out, a, &format::CHIPDATA)
 }
 
-// The roots' section before a place: where it starts.
-fn put_roots(out: &mut [u8], at: usize, records: &[u8], start: usize, n: usize) -> usize
-    requires { (5 + sizes 0 (records_from records.now n start) ≤ at) × (at ≤ length out.old) × (start + 16 * n ≤ length records.now) }
-    ensures { Back out.old out.new at result (roots_section (records_from records.now n start)) }
+// A section before a place: where it starts.
+fn put_section(out: &mut [u8], at: usize, part: &[u8], section: Section) -> usize
+    requires { (head_size section + sizes 0 (records_in part.now) ≤ at) × (at ≤ length out.old) }
+    ensures { Back out.old out.new at result (section_of section (records_in part.now)) }
 {
-    let w = put_part(out, at, records, start, n);
-    let counts = w.counts;
-    put_head(out, w.at, 0x524f_4f54, 1, counts.roots)
-}
-
-// The nodes' section before a place: where it starts.
-fn put_nodes(out: &mut [u8], at: usize, records: &[u8], start: usize, n: usize) -> usize
-    requires { (6 + sizes 0 (records_from records.now n start) ≤ at) × (at ≤ length out.old) × (start + 16 * n ≤ length records.now) }
-    ensures { Back out.old out.new at result (nodes_section (records_from records.now n start) []) }
-{
-    let w = put_part(out, at, records, start, n);
-    let counts = w.counts;
-    put_head(out, w.at, 0x4e4f_4445, 2, counts.nodes)
-}
-
-// The registers' section before a place: where it starts.
-fn put_registers(out: &mut [u8], at: usize, records: &[u8], start: usize, n: usize) -> usize
-    requires { (7 + sizes 0 (records_from records.now n start) ≤ at) × (at ≤ length out.old) × (start + 16 * n ≤ length records.now) }
-    ensures { Back out.old out.new at result (registers_section (records_from records.now n start) []) }
-{
-    let w = put_part(out, at, records, start, n);
-    let counts = w.counts;
-    put_head(out, w.at, 0x5245_4753, 3, counts.registers)
+    let Written { at: start, counts } = put_part(out, at, part);
+    match section {
+        Section::Registers => put_head(out, start, &format::REGS, 3, counts.registers),
+        Section::Nodes => put_head(out, start, &format::NODE, 2, counts.nodes),
+        Section::Roots => put_head(out, start, &format::ROOT, 1, counts.roots),
+    }
 }
 
 // The whole file before a place: where it starts.
-fn put_file(out: &mut [u8], at: usize, model: u32, records: &[u8], p: Parts) -> usize
-    requires { Split (records_in records.now) p × (at ≡ file_size (records_in records.now)) × (at ≤ length out.old) }
-    ensures { Back out.old out.new at result (file_of model (records_in records.now)) }
+fn put_file(out: &mut [u8], at: usize, model: u32, p: Parts) -> usize
+    requires { (at ≡ parts_size p) × (at ≤ length out.old) }
+    ensures { Back out.old out.new at result (parts_file model p.entry) }
 {
-    let c = put_roots(out, at, records, 16 * (p.registers + p.others), p.roots);
-    let b = put_nodes(out, c, records, 16 * p.registers, p.others);
-    let a = put_registers(out, b, records, 0, p.registers);
+    let c = put_section(out, at, p.roots, Section::Roots);
+    let b = put_section(out, c, p.others, Section::Nodes);
+    let a = put_section(out, b, p.registers, Section::Registers);
     put_start(out, a, model)
 }
 
@@ -469,10 +355,10 @@ pub fn pack_file(model: u32, records: &[u8], out: &mut [u8]) -> usize
     ensures output { out.new ≡ packed_in model records.now out.old }
 {
     let p = split(records);
-    let size = measured(records, p);
+    let size = measured(p);
     if out.len() < size {
         return size;
     }
-    put_file(out, size, model, records, p);
+    put_file(out, size, model, p);
     size
 }

@@ -11,11 +11,11 @@ ghost use Rattle.reader.specs.Layout.{laid_out, layout_at};
 
 use crate::classes::examine;
 use crate::{Layout, LayoutRead};
-use format::Address;
+use format::{Address, Refusal};
 use index::addresses::find_address;
 
 // The address of a register instance of a file whose layout was read. It reads the registers section once, up to that instance.
-fn laid_address(s: &[u8], l: Layout, id: u64, number: u8) -> Address
+fn laid_address(s: &[u8], l: Layout, id: u64, number: u8) -> Result<Address, Refusal>
     ensures { (c : Chip)
         → done (laid_out l) l.end ≡ layout_at library_limits s.now 0
         → file_at library_limits s.now true 0 ≡ done c l.end
@@ -25,13 +25,13 @@ fn laid_address(s: &[u8], l: Layout, id: u64, number: u8) -> Address
 }
 
 // The address query: where the address of a register instance stands in the file, and its size; or a refusal.
-pub fn address(file: &[u8], id: u64, number: u8) -> Address
+pub fn address(file: &[u8], id: u64, number: u8) -> Result<Address, Refusal>
     ensures { address_values result ≡ address library_limits file.now id number }
 {
     let e = examine(file);
     match e {
         LayoutRead::Done(l) => laid_address(file, l, id, number),
-        LayoutRead::Refused(r) => Address::Refused(r),
+        LayoutRead::Refused(r) => Err(r),
     }
 }
 
@@ -41,9 +41,8 @@ pub fn address_part(file: &[u8], id: u64, number: u8) -> &[u8]
     ensures content { result.now
         ≡ take (address library_limits file.now id number).size (drop (address library_limits file.now id number).offset file.now) }
 {
-    let a = address(file, id, number);
-    match a {
-        Address::At(offset, size) => &file[offset..offset + size],
-        Address::Refused(_) => &file[0..0],
+    match address(file, id, number) {
+        Ok(a) => &file[a.place..a.place + a.size],
+        Err(_) => &file[0..0],
     }
 }

@@ -1,15 +1,14 @@
 // The reader of chip data files.
 #![tactic(auto)]
 
-ghost use Rattle.std.specs.Prelude.{◌≡◌};
+ghost use Rattle.std.specs.Prelude.{◌≡◌, Ok};
 ghost use Rattle.limits.specs.Limits.{library_limits};
-ghost use Rattle.format.specs.declared.Checked.{Checked};
 ghost use Rattle.format.specs.Refusals.{checked_values};
 ghost use Rattle.format.specs.Verdict.{check};
 ghost use Rattle.reader.specs.Layout.{laid_out, layout_values};
 
 use crate::classes::examine;
-use format::{Checked, Refusal, Summary};
+use format::{Refusal, Summary};
 
 pub mod address;
 mod classes;
@@ -44,7 +43,7 @@ pub enum LayoutRead {
 
 // What a layout says that the file holds.
 fn summary(l: Layout) -> Summary
-    ensures { checked_values (Checked.Accepted result) ≡ layout_values (laid_out l) }
+    ensures { checked_values (Ok result) ≡ layout_values (laid_out l) }
 {
     Summary {
         model: l.model,
@@ -57,12 +56,12 @@ fn summary(l: Layout) -> Summary
 }
 
 // The checker: what an accepted file holds, or the refusal that the rules name first. With tables that have room for the file, and IDs, instance numbers and child bits that rise, it reads an accepted file once, and its child entries, its roots and the rules of each root's node instance once more.
-pub fn check(file: &[u8]) -> Checked
+pub fn check(file: &[u8]) -> Result<Summary, Refusal>
     ensures { checked_values result ≡ check library_limits file.now }
 {
     let e = examine(file);
     match e {
-        LayoutRead::Done(l) => Checked::Accepted(summary(l)),
-        LayoutRead::Refused(r) => Checked::Refused(r),
+        LayoutRead::Done(l) => Ok(summary(l)),
+        LayoutRead::Refused(r) => Err(r),
     }
 }

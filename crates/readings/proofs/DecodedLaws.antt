@@ -2,25 +2,19 @@
 use Prim.Native.Nat.{ℕ, zero, suc, ◌^◌, ◌≤◌, ◌<◌}
 use mathlib.Core.Bool.{true, false}
 use mathlib.Core.List.{List, [], ◌∷◌}
-use mathlib.Core.Logic.{◌⊎◌, inl, inr, ⊎_elim}
 use mathlib.Core.Path.{◌≡◌, refl}
 use native.Mathlib.Omega.{arith}
-use borrow.Author.Tests.{eq-eqb, eqb-true, le-leb, leb-true, le-ltb}
-use lib.Dec.{lit<, eqb, leb, ltb}
+use borrow.Author.Tests.{le-ltb}
+use lib.Dec.{lit<, ltb}
 use lib.ListN.{length, drop, get_or}
 use Rattle.numbers.specs.Field.{field}
 use Rattle.numbers.specs.BigEndian.{Bytes}
 use Rattle.numbers.proofs.BigEndianLaws.{bytes_drop}
-use Rattle.numbers.proofs.Bools.{and_left, and_right, and_both, or_left, or_right, or_cases}
+use Rattle.numbers.proofs.Bools.{and_left, and_right}
 use Rattle.numbers.proofs.FieldLaws.{field_lt}
 use Rattle.format.specs.Lookup.{some}
 use Rattle.readings.specs.ReadingsFile.{Holdable, read_byte, value_in, record_fits, records_fit, file_fits, each_record, words_of, read_of}
 use Rattle.readings.proofs.RecordLaws.{each-length, file_records}
-
-zero-or_one : (x : ℕ) → x ≤ 1 → (x ≡ 0) ⊎ (x ≡ 1)
-zero-or_one zero h = inl refl
-zero-or_one (suc zero) h = inr refl
-zero-or_one (suc (suc x)) h = absurd (omega arith)
 
 -- The four facts of a record for a key.
 pub record Fits (key : ℕ) (bs : List ℕ) : Type 0 where
@@ -32,22 +26,11 @@ pub record Fits (key : ℕ) (bs : List ℕ) : Type 0 where
 module _ (key : ℕ) (bs : List ℕ) where
   pub fits_out : record_fits key bs ≡ true → Fits key bs
   unfolding record_fits
-  fits_out e =
-      let a = and_right (eqb (field bs 0 4) key) _ e in
-      let b = and_right (leb (read_byte bs) 1) _ a in
-      let d = and_right (eqb (field bs 5 3) 0) _ b in
-      record {
-        name = eqb-true _ _ (and_left _ _ e);
-        byte = leb-true _ _ (and_left _ _ a);
-        zeros = eqb-true _ _ (and_left _ _ b);
-        unread = λ z. ⊎_elim (λ y. absurd (let h : read_byte bs ≡ 1 = eqb-true _ _ y in let k : read_byte bs ≡ 0 = z in omega arith)) (λ y. eqb-true _ _ y) (or_cases _ _ d);
-      }
+  fits_out e = record { name = grind arith; byte = grind arith; zeros = grind arith; unread = λ z. grind arith }
 
   pub fits_in : Fits key bs → record_fits key bs ≡ true
   unfolding record_fits
-  fits_in f =
-      and_both (eq-eqb _ _ f.name) (and_both (le-leb _ _ f.byte) (and_both (eq-eqb _ _ f.zeros)
-      (⊎_elim (λ z. or_right (eqb (read_byte bs) 1) (eq-eqb _ _ (f.unread z))) (λ o. or_left _ (eq-eqb _ _ o)) (zero-or_one (read_byte bs) f.byte))))
+  fits_in f = grind (arith, f.unread)
 
 -- Record after record.
 

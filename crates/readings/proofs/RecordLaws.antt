@@ -1,199 +1,117 @@
--- The laws of a record at a place, of records one after another, and of decoding.
-use Prim.Native.Nat.{ℕ, suc, ◌+◌, ◌*◌, ◌/◌, ◌%◌, ◌≤◌, ◌<◌}
-use mathlib.Core.Bool.{Bool, true, false, cond, ◌&&◌, ◌||◌}
-use mathlib.Core.List.{List, [], ◌∷◌}
+-- The laws of a record, of records one after another, and of decoding.
+use Prim.Native.Nat.{ℕ, suc, ◌+◌, ◌*◌, ◌≤◌, ◌<◌}
+use mathlib.Core.Bool.{true, false, ◌&&◌}
+use mathlib.Core.List.{List, [], ◌∷◌, ◌++◌}
+use Rattle.std.specs.Prelude.{Ok, Err}
 use mathlib.Core.Path.{◌≡◌, refl, sym, ◌∙◌, ap}
-use native.Mathlib.Nat.{add-zero}
 use native.Mathlib.Numerals.{add-one}
 use native.Mathlib.Omega.{arith}
-use borrow.Author.Tests.{eq-eqb, ne_eqb, eqb-true, le-leb, lt-leb}
-use lib.Dec.{eqb, leb}
-use lib.ListN.{length, drop, get_or, set, length-set, drop_of_length-le}
-use lib.Seq.{drop-cons, drop-drop}
+use borrow.Author.Tests.{eqb-true}
+use lib.Dec.{eqb, lit≤}
+use lib.ListN.{length, drop, get_or, set, length-drop, length-append, drop_of_length-le}
+use lib.Seq.{drop-append_seam, drop-cons}
+use Rattle.std.proofs.lemmas.List.{take-append-le, drop-append-le}
+use Rattle.numbers.specs.BigEndian.{big_endian}
 use Rattle.numbers.specs.Field.{field}
 use Rattle.numbers.proofs.Bools.{and_left, and_right}
-use Rattle.numbers.proofs.FieldLaws.{field-byte, field-drop}
+use Rattle.numbers.proofs.FieldLaws.{field-byte}
 use Rattle.format.specs.declared.Refusal.{Refusal}
 use Rattle.format.proofs.NumberedLaws.{kind_some}
 use Rattle.tables.specs.Tables.{written}
 use Rattle.tables.proofs.TablesLaws.{written_front}
-use Rattle.readings.specs.declared.Decoded.{Decoded}
-use Rattle.readings.specs.ReadingsFile.{read_byte, value_in, record_fits, records_fit, file_fits, each_record, places_for, decodes, DecodedValues, decoded_values, decoding, lent_after}
+use Rattle.readings.specs.ReadingsFile.{read_byte, value_in, record_fits, records_fit, file_fits, each_record, words_of, read_of, decodes, decoded_values, decoding, lent_after}
 
--- The read byte of the record at a place.
-byte_at_place : (s : List ℕ) (at : ℕ) → at + 16 ≤ length s → get_or s (at + 4) 0 ≡ read_byte (drop at s)
+-- The read byte of a record.
+pub read_is : (s : List ℕ) → length s ≡ 16 → read_byte s ≡ get_or s 4 0
 unfolding read_byte
-byte_at_place s at h = sym (field-drop s at 4 1 ∙ field-byte s (at + 4) (omega arith))
+read_is s h = field-byte s 4 (omega arith)
 
--- What the record at a place is found to be.
-module _ (s : List ℕ) (at key : ℕ) (h : at + 16 ≤ length s) {x : ℕ} (kx : x ≡ field s at 4) where
-  record-at : record_fits key (drop at s)
-      ≡ eqb x key && (leb (get_or s (at + 4) 0) 1 && (eqb (field s (at + 5) 3) 0 && (eqb (get_or s (at + 4) 0) 1 || eqb (field s (at + 8) 8) 0)))
-  unfolding record_fits value_in
-  record-at =
-      let e : field (drop at s) 0 4 ≡ x = field-drop s at 0 4 ∙ ap (λ k. field s k 4) (add-zero at) ∙ sym kx in
-      rw (e, ← byte_at_place s at h, field-drop s at 5 3, field-drop s at 8 8)
+-- A record that more follows: it fits a key, and has a read byte and a value, as the bytes do that it begins.
+module _ (r rest : List ℕ) (h : length r ≡ 16) where
+  begun : (at n : ℕ) → at + n ≤ 16 → field r at n ≡ field (r ++ rest) at n
+  unfolding field
+  begun at n l =
+      let a : at ≤ length r = omega arith in
+      let b : n ≤ length (drop at r) = omega (arith, length-drop at r) in
+      ap big_endian (sym (rw drop-append-le (take-append-le n (drop at r) rest b)))
 
-  pub other_key : (x ≡ key → ⊥) → false ≡ record_fits key (drop at s)
-  other_key n = sym (record-at ∙ rw (ne_eqb _ _ n))
-
-  module _ (k : x ≡ key) where
-    pub other_byte : 1 < get_or s (at + 4) 0 → false ≡ record_fits key (drop at s)
-    other_byte n = sym (record-at ∙ rw (eq-eqb _ _ k, lt-leb _ _ n))
-
-    module _ (b : get_or s (at + 4) 0 ≤ 1) {y : ℕ} (ky : y ≡ field s (at + 5) 3) where
-      pub other_zeros : (y ≡ 0 → ⊥) → false ≡ record_fits key (drop at s)
-      other_zeros n = sym (record-at ∙ rw (eq-eqb _ _ k, le-leb _ _ b, ← ky, ne_eqb _ _ n))
-
-      module _ (z : y ≡ 0) where
-        pub is_read : get_or s (at + 4) 0 ≡ 1 → true ≡ record_fits key (drop at s)
-        is_read r = sym (record-at ∙ rw (eq-eqb _ _ k, le-leb _ _ b, ← ky, eq-eqb _ _ z, eq-eqb _ _ r))
-
-        pub is_unread : (get_or s (at + 4) 0 ≡ 1 → ⊥) → {v : ℕ} → v ≡ field s (at + 8) 8 → eqb v 0 ≡ record_fits key (drop at s)
-        is_unread r e = sym (record-at ∙ rw (eq-eqb _ _ k, le-leb _ _ b, ← ky, eq-eqb _ _ z, ne_eqb _ _ r, e))
-
--- Record after record: the records of the keys before i are passed, and were ones for their keys.
-pub record Fitting (keys bytes : List ℕ) (i at : ℕ) : Type 0 where
-  pub inside : i ≤ length keys
-  pub place : at ≡ 16 * i
-  pub rest : records_fit (drop i keys) (drop at bytes) ≡ records_fit keys bytes
-
-module _ {keys bytes : List ℕ} where
-  pub fitting_begin : Fitting keys bytes 0 0
-  fitting_begin = record { inside = omega arith; place = refl; rest = refl }
-
-  module _ {i at : ℕ} (f : Fitting keys bytes i at) where
-    module _ (h : i < length keys) {t : Bool} (e : t ≡ record_fits (get_or keys i 0) (drop at bytes)) where
-      fits_more : t && records_fit (drop (i + 1) keys) (drop (at + 16) bytes) ≡ records_fit keys bytes
-      unfolding records_fit
-      fits_more = rw (e, add-one, ← drop-drop 16 at bytes) (rw (drop-cons keys i 0 h) at f.rest)
-
-      pub fitting_next : t ≡ true → Fitting keys bytes (i + 1) (at + 16)
-      fitting_next y = record { inside = omega arith; place = omega (arith, f.place); rest = rw y at fits_more }
-
-      pub fitting_stop : t ≡ false → false ≡ records_fit keys bytes
-      fitting_stop n = rw n at fits_more
-
-    pub fitting_end : length keys ≤ i → true ≡ records_fit keys bytes
-    unfolding records_fit
-    fitting_end h = rw (drop_of_length-le keys h) at f.rest
-
--- The same for what is written: with what is wanted of the records to come, the table t is what t₀ is with that of all.
-pub record Putting (want : List ℕ → ℕ) (keys bytes t₀ t : List ℕ) (i at : ℕ) : Type 0 where
-  pub inside : i ≤ length keys
-  pub place : at ≡ 16 * i
-  pub same : length t ≡ length t₀
-  pub rest : written t i (each_record want (drop i keys) (drop at bytes)) ≡ written t₀ 0 (each_record want keys bytes)
-
-module _ {want : List ℕ → ℕ} {keys bytes t₀ : List ℕ} where
-  pub putting_begin : Putting want keys bytes t₀ t₀ 0 0
-  putting_begin = record { inside = omega arith; place = refl; same = refl; rest = refl }
-
-  module _ {t : List ℕ} {i at : ℕ} (f : Putting want keys bytes t₀ t i at) where
-    putting_next : i < length keys → {v : ℕ} → v ≡ want (drop at bytes) → Putting want keys bytes t₀ (set t i v) (i + 1) (at + 16)
-    unfolding each_record written
-    putting_next h e =
-        record {
-          inside = omega arith;
-          place = omega (arith, f.place);
-          same = simp length-set f.same;
-          rest = rw (e, add-one, ← drop-drop 16 at bytes) (rw (drop-cons keys i 0 h) at f.rest);
-        }
-
-    pub putting_end : length keys ≤ i → t ≡ written t₀ 0 (each_record want keys bytes)
-    unfolding each_record written
-    putting_end h = rw (drop_of_length-le keys h) at f.rest
-
-module _ {keys bytes t₀ t : List ℕ} {i at : ℕ} where
-  pub words_next : Putting value_in keys bytes t₀ t i at → i < length keys → {v : ℕ} → v ≡ field bytes (at + 8) 8
-      → Putting value_in keys bytes t₀ (set t i v) (i + 1) (at + 16)
+  value_begun : value_in r ≡ value_in (r ++ rest)
   unfolding value_in
-  words_next f h e = putting_next f h (e ∙ sym (field-drop bytes at 8 8))
+  value_begun = begun 8 8 (lit≤ tt)
 
-  pub read_next : Putting read_byte keys bytes t₀ t i at → i < length keys → length bytes ≡ 16 * length keys
-      → Putting read_byte keys bytes t₀ (set t i (get_or bytes (at + 4) 0)) (i + 1) (at + 16)
-  read_next f h l = putting_next f h (byte_at_place bytes at (omega (arith, f.place)))
+  read_begun : read_byte r ≡ read_byte (r ++ rest)
+  unfolding read_byte
+  read_begun = begun 4 1 (lit≤ tt)
+
+  fits_begun : (key : ℕ) → record_fits key r ≡ record_fits key (r ++ rest)
+  unfolding record_fits
+  fits_begun key = rw (begun 0 4 (lit≤ tt), begun 5 3 (lit≤ tt), value_begun, read_begun)
+
+  after : drop 16 (r ++ rest) ≡ rest
+  after = ap (λ n. drop n (r ++ rest)) (sym h) ∙ drop-append_seam r rest
+
+-- The first record decides, or those that follow it.
+pub more_fit : (key : ℕ) (keys r rest : List ℕ) → length r ≡ 16 → records_fit (key ∷ keys) (r ++ rest) ≡ record_fits key r && records_fit keys rest
+unfolding records_fit
+more_fit key keys r rest h = rw (after r rest h, fits_begun r rest h key)
+
+-- Where no key is left, every record was one for its key.
+pub none_fit : (keys bytes : List ℕ) → length keys ≡ 0 → records_fit keys bytes ≡ true
+unfolding records_fit
+none_fit [] bytes h = refl
+none_fit (k ∷ keys) bytes h = absurd (omega arith)
+
+pub ruleset fitting = (more_fit, none_fit, length-append)
+
+-- What is written: with what is wanted of the records to come, the first of which goes to place i.
+module _ (want : List ℕ → ℕ) (same : (r rest : List ℕ) → length r ≡ 16 → want r ≡ want (r ++ rest)) where
+  put_more : (t keys r rest : List ℕ) (i : ℕ) → i < length keys → length r ≡ 16
+      → written t i (each_record want (drop i keys) (r ++ rest)) ≡ written (set t i (want r)) (i + 1) (each_record want (drop (i + 1) keys) rest)
+  unfolding each_record written
+  put_more t keys r rest i l h = rw (drop-cons keys i 0 l, add-one, after r rest h, ← same r rest h)
+
+pub words_more : (t keys r rest : List ℕ) (i : ℕ) → i < length keys → length r ≡ 16
+    → written t i (words_of (drop i keys) (r ++ rest)) ≡ written (set t i (value_in r)) (i + 1) (words_of (drop (i + 1) keys) rest)
+words_more = put_more value_in value_begun
+
+pub reads_more : (t keys r rest : List ℕ) (i : ℕ) → i < length keys → length r ≡ 16
+    → written t i (read_of (drop i keys) (r ++ rest)) ≡ written (set t i (read_byte r)) (i + 1) (read_of (drop (i + 1) keys) rest)
+reads_more = put_more read_byte read_begun
+
+-- Where no key is left, the table is what it is to be.
+pub put_end : (want : List ℕ → ℕ) (t keys bytes : List ℕ) (i : ℕ) → length keys ≤ i → written t i (each_record want (drop i keys) bytes) ≡ t
+unfolding each_record written
+put_end want t keys bytes i h = rw (drop_of_length-le keys h)
+
+pub ruleset putting = (words_more, reads_more, put_end, read_is, length-append)
 
 pub each-length : (want : List ℕ → ℕ) (keys bytes : List ℕ) → length (each_record want keys bytes) ≡ length keys
 unfolding each_record
 each-length want [] bytes = refl
 each-length want (k ∷ keys) bytes = ap suc (each-length want keys (drop 16 bytes))
 
--- The size of a file.
+-- The size of a file, and its records.
 module _ (keys bytes : List ℕ) where
-  size_wrong : (length bytes ≡ 16 * length keys → ⊥) → false ≡ file_fits keys bytes
+  pub file_size : file_fits keys bytes ≡ true → length bytes ≡ 16 * length keys
   unfolding file_fits
-  size_wrong n = rw (ne_eqb (length bytes) (16 * length keys) n)
-
-  pub size_odd : (length bytes % 16 ≡ 0 → ⊥) → false ≡ file_fits keys bytes
-  size_odd n = size_wrong (λ e. n (let d : length bytes ≡ 16 * length keys = e in omega arith))
-
-  pub size_other : (length bytes / 16 ≡ length keys → ⊥) → false ≡ file_fits keys bytes
-  size_other n = size_wrong (λ e. n (let d : length bytes ≡ 16 * length keys = e in omega arith))
-
-  pub size_right : length bytes % 16 ≡ 0 → length bytes / 16 ≡ length keys → {t : Bool} → t ≡ records_fit keys bytes → t ≡ file_fits keys bytes
-  unfolding file_fits
-  size_right p q e = e ∙ rw (eq-eqb (length bytes) (16 * length keys) (omega arith))
-
-  pub file-size : file_fits keys bytes ≡ true → length bytes ≡ 16 * length keys
-  unfolding file_fits
-  file-size e = eqb-true _ _ (and_left _ _ e)
+  file_size e = eqb-true _ _ (and_left _ _ e)
 
   pub file_records : file_fits keys bytes ≡ true → records_fit keys bytes ≡ true
   unfolding file_fits
   file_records e = and_right (eqb (length bytes) (16 * length keys)) _ e
 
--- Decoding: the answer, and whether it succeeds.
+-- A list that has room, after what was decoded was written to it.
+pub lent_written : (want : List ℕ → ℕ) (keys bytes lent : List ℕ) → length keys ≤ length lent
+    → written lent 0 (each_record want keys bytes) ≡ lent_after true (each_record want keys bytes) lent
+unfolding lent_after
+lent_written want keys bytes lent h = written_front lent (each_record want keys bytes) (omega (arith, each-length want keys bytes))
+
+-- Decoding: whether it succeeds, by its answer.
 module _ (keys bytes words read : List ℕ) where
-  abbrev Decides : ℕ → Bool → Type 0
-  Decides n t = (record { number = n; place = 0 } ≡ decoding keys bytes words read) × (t ≡ decodes keys bytes words read)
-
-  pub no_words : length words < length keys → Decides 43 false
-  unfolding decoding decodes places_for
-  no_words h = (rw (lt-leb _ _ h), rw (lt-leb _ _ h))
-
-  module _ (h : length keys ≤ length words) where
-    pub no_read : length read < length keys → Decides 43 false
-    unfolding decoding decodes places_for
-    no_read k = (rw (le-leb _ _ h, lt-leb _ _ k), rw (le-leb _ _ h, lt-leb _ _ k))
-
-    module _ (k : length keys ≤ length read) where
-      pub no_fit : file_fits keys bytes ≡ false → Decides 17 false
-      unfolding decoding decodes places_for
-      no_fit e = (rw (le-leb _ _ h, le-leb _ _ k, e), rw (le-leb _ _ h, le-leb _ _ k, e))
-
-      pub all_fit : file_fits keys bytes ≡ true → Decides 0 true
-      unfolding decoding decodes places_for
-      all_fit e = (rw (le-leb _ _ h, le-leb _ _ k, e), rw (le-leb _ _ h, le-leb _ _ k, e))
-
-  -- What the answer says.
-  abbrev chosen : Bool → Bool → DecodedValues
-  chosen r f = cond r (cond f (record { number = 0; place = 0 }) (record { number = 17; place = 0 })) (record { number = 43; place = 0 })
-
-  decided : (r f : Bool) (v : DecodedValues) → v ≡ chosen r f → v.number ≡ 0 → r && f ≡ true
-  decided true true v e z = refl
-  decided true false v e z = let y : v.number ≡ 17 = ap (λ x. x.number) e in absurd (omega arith)
-  decided false f v e z = let y : v.number ≡ 43 = ap (λ x. x.number) e in absurd (omega arith)
-
-  undecided : (r f : Bool) (v : DecodedValues) → v ≡ chosen r f → 0 < v.number → r && f ≡ false
-  undecided true true v e z = let y : v.number ≡ 0 = ap (λ x. x.number) e in absurd (omega arith)
-  undecided true false v e z = refl
-  undecided false f v e z = refl
-
-  pub decoded_yes : decoded_values Decoded.Read ≡ decoding keys bytes words read → decodes keys bytes words read ≡ true
+  pub decoded_yes : decoded_values (Ok tt) ≡ decoding keys bytes words read → decodes keys bytes words read ≡ true
   unfolding decoding decodes
-  decoded_yes e = decided (places_for keys words read) (file_fits keys bytes) _ e refl
+  decoded_yes e = grind arith
 
-  pub decoded_no : (r : Refusal) → decoded_values (Decoded.Refused r) ≡ decoding keys bytes words read → decodes keys bytes words read ≡ false
+  pub decoded_no : (r : Refusal) → decoded_values (Err r) ≡ decoding keys bytes words read → decodes keys bytes words read ≡ false
   unfolding decoding decodes
-  decoded_no r e = undecided (places_for keys words read) (file_fits keys bytes) _ e (kind_some r.kind)
-
-pub lent_kept : (xs lent : List ℕ) {t : Bool} → false ≡ t → lent ≡ lent_after t xs lent
-unfolding lent_after
-lent_kept xs lent e = rw (← e)
-
-pub lent_put : (want : List ℕ → ℕ) (keys bytes lent : List ℕ) {u : List ℕ} {t : Bool} → true ≡ t → length keys ≤ length lent → u ≡ written lent 0 (each_record want keys bytes)
-    → u ≡ lent_after t (each_record want keys bytes) lent
-unfolding lent_after
-lent_put want keys bytes lent d h e =
-    e ∙ written_front lent (each_record want keys bytes) (omega (arith, each-length want keys bytes)) ∙ ap (λ b. lent_after b (each_record want keys bytes) lent) d
+  decoded_no r e = grind (arith, kind_some)

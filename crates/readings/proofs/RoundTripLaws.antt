@@ -16,7 +16,7 @@ use Rattle.format.specs.Lookup.{some}
 use Rattle.format.specs.Rules.{Every}
 use Rattle.format.proofs.EveryLaws.{or-false_left, or-false_right}
 use Rattle.readings.specs.ReadingsFile.{reading_record, file_of, key_file, Holdable, read_byte, value_in, records_fit, file_fits, each_record, words_of, read_of}
-use Rattle.readings.proofs.RecordLaws.{file-size, file_records}
+use Rattle.readings.proofs.RecordLaws.{file_size, file_records}
 use Rattle.readings.proofs.DecodedLaws.{Fits, fits_in, first_fits, others_fit}
 
 -- The record of a key, and what is read of it.
@@ -156,4 +156,4 @@ again (k ∷ keys) bytes h l e =
     ap (λ t. reading_record (bytes_of 4 k) (read_byte bytes) (value_in bytes) ++ t) r ∙ record_again k bytes h (omega arith) (first_fits k keys bytes e)
 
 pub read_is_written : (keys bytes : List ℕ) → Bytes bytes → file_fits keys bytes ≡ true → key_file keys (words_of keys bytes) (read_of keys bytes) ≡ bytes
-read_is_written keys bytes h e = again keys bytes h (file-size keys bytes e) (file_records keys bytes e)
+read_is_written keys bytes h e = again keys bytes h (file_size keys bytes e) (file_records keys bytes e)

@@ -1,12 +1,12 @@
 -- The readings file. Document 01: "The readings file has records of one fixed size, no header: 16 bytes each, being register ID (3), instance, read byte, three
 -- zeros, value (8; zero if unread), in the register instances' file order. Its numbers and the list's are big-endian."
-use Rattle.std.specs.Prelude.{ℕ, ◌*◌, ◌^◌, ◌<◌, Bool, true, false, cond, ◌&&◌, ◌||◌, List, [], ◌∷◌, ◌++◌, map, ◌≡◌, leb, ltb, eqb, length, get_or, drop}
+use Rattle.std.specs.Prelude.{ℕ, Result, Ok, Err, ◌*◌, ◌^◌, ◌<◌, Bool, true, false, cond, ◌&&◌, ◌||◌, List, [], ◌∷◌, ◌++◌, map, ◌≡◌, leb, ltb, eqb, length, get_or, drop}
 use Rattle.numbers.specs.BigEndian.{bytes_of}
 use Rattle.numbers.specs.Field.{field}
 use Rattle.format.specs.Lookup.{RegisterEntry, register_entries, some}
+use Rattle.format.specs.declared.Refusal.{Refusal}
 use Rattle.format.specs.Refusals.{number_of}
 use Rattle.format.specs.Tree.{Chip}
-use Rattle.readings.specs.declared.Decoded.{Decoded}
 
 -- "Records of one fixed size, no header: 16 bytes each".
 abbrev pub reading_size : ℕ
@@ -92,9 +92,9 @@ pub record DecodedValues : Type 0 where
   pub number : ℕ
   pub place : ℕ
 
-abbrev pub decoded_values : Decoded → DecodedValues
-decoded_values Decoded.Read = record { number = 0; place = 0 }
-decoded_values (Decoded.Refused r) = record { number = number_of r.kind; place = r.place }
+abbrev pub decoded_values : Result (Unit {0}) Refusal → DecodedValues
+decoded_values (Ok u) = record { number = 0; place = 0 }
+decoded_values (Err r) = record { number = number_of r.kind; place = r.place }
 
 -- 43 where a lent list has no place for each key, then 17 where the file does not fit.
 unfoldable pub decoding : List ℕ → List ℕ → List ℕ → List ℕ → DecodedValues

@@ -1,141 +1,102 @@
 // The readings file: words and read bytes from its records, one record for each register instance.
 #![tactic(auto)]
 
-ghost use Rattle.std.specs.Prelude.{◌+◌, ◌*◌, ◌≤◌, ◌≡◌, length, drop};
+ghost use Rattle.std.specs.Prelude.{◌+◌, ◌*◌, ◌≤◌, ◌≡◌, length};
 ghost use Rattle.numbers.specs.Field.{size_of, field};
 ghost use Rattle.tables.specs.Tables.{written};
 ghost use Rattle.readings.specs.ReadingsFile.{record_fits, records_fit, file_fits, words_of, read_of, decodes, decoded_values, decoding, lent_after};
 
 use format::{Kind, Refusal};
-use numbers::{NumberRead, Width, number_at};
+use numbers::{Width, number_at};
+
+// The bytes of a record.
+const RECORD: usize = 16;
 
 // The number at a place where it is wholly there.
+#[tactic(auto, unfolding(numbers::specs::Field::number_at, numbers::specs::Field::present))]
 fn value_at(s: &[u8], at: usize, w: Width) -> u64
     requires { at + size_of w ≤ length s.now }
     ensures { result ≡ field s.now at (size_of w) }
 {
-    let n = number_at(s, at, w);
-    match n {
-        NumberRead::Number(value, _) => value,
-        NumberRead::Cut => 0,
+    match number_at(s, at, w) {
+        Some((value, _)) => value,
+        None => 0,
     }
 }
 
-// Whether the record at a place is one for a key.
-fn record_fits(bytes: &[u8], at: usize, key: u64) -> bool
-    requires { at + 16 ≤ length bytes.now }
-    ensures { result ≡ record_fits key (drop at bytes.now) }
+// Whether a record is one for a key.
+#[tactic(auto, using(crate::proofs::RecordLaws::read_is), unfolding(crate::specs::ReadingsFile::record_fits, crate::specs::ReadingsFile::value_in))]
+fn record_fits(row: &[u8], key: u64) -> bool
+    requires { length row.now ≡ 16 }
+    ensures { result ≡ record_fits key row.now }
 {
-    if value_at(bytes, at, Width::Four) != key {
-        return false;
-    }
-    let read = bytes[at + 4];
-    if 1 < read {
-        return false;
-    }
-    if value_at(bytes, at + 5, Width::Three) != 0 {
-        return false;
-    }
-    if read == 1 {
-        return true;
-    }
-    value_at(bytes, at + 8, Width::Eight) == 0
+    let read = row[4];
+    value_at(row, 0, Width::Four) == key
+        && read <= 1
+        && value_at(row, 5, Width::Three) == 0
+        && (read == 1 || value_at(row, 8, Width::Eight) == 0)
 }
 
 // Whether every key's record is one for it. It reads each record once, up to the first that is not.
+#[tactic(auto, using(crate::proofs::RecordLaws::fitting))]
 fn records_fit(bytes: &[u8], keys: &[u64]) -> bool
     requires { length bytes.now ≡ 16 * length keys.now }
     ensures { result ≡ records_fit keys.now bytes.now }
 {
-    let mut i = 0;
-    let mut at = 0;
-    while i < keys.len() {
-        if !record_fits(bytes, at, keys[i]) {
+    for (key, row) in keys.iter().zip(bytes.chunks_exact(RECORD)) {
+        if !record_fits(row, *key) {
             return false;
         }
-        i += 1;
-        at += 16;
     }
     true
 }
 
 // Whether some bytes are a file for these keys.
+#[tactic(auto, unfolding(crate::specs::ReadingsFile::file_fits))]
 fn file_fits(bytes: &[u8], keys: &[u64]) -> bool
     ensures { result ≡ file_fits keys.now bytes.now }
 {
-    if bytes.len() % 16 != 0 {
-        return false;
-    }
-    if bytes.len() / 16 != keys.len() {
-        return false;
-    }
-    records_fit(bytes, keys)
+    bytes.len() % RECORD == 0 && bytes.len() / RECORD == keys.len() && records_fit(bytes, keys)
 }
 
-// The value of each key's record, from the front of `words` on. It reads each value once.
-fn put_words(bytes: &[u8], keys: &[u64], words: &mut [u64])
-    requires { (length bytes.now ≡ 16 * length keys.now) × (length keys.now ≤ length words.old) }
-    ensures { words.new ≡ written words.old 0 (words_of keys.now bytes.now) }
+// The value and the read byte of each key's record, from the front of `words` and of `read` on. It reads each record once.
+#[tactic(auto, using(crate::proofs::RecordLaws::putting), unfolding(crate::specs::ReadingsFile::value_in))]
+fn put_records(bytes: &[u8], keys: &[u64], words: &mut [u64], read: &mut [u8])
+    requires size { length bytes.now ≡ 16 * length keys.now }
+    requires words { length keys.now ≤ length words.old }
+    requires read { length keys.now ≤ length read.old }
+    ensures words { words.new ≡ written words.old 0 (words_of keys.now bytes.now) }
+    ensures read { read.new ≡ written read.old 0 (read_of keys.now bytes.now) }
 {
-    let mut i = 0;
-    let mut at = 0;
-    while i < keys.len() {
-        words[i] = value_at(bytes, at + 8, Width::Eight);
-        i += 1;
-        at += 16;
+    for (i, row) in bytes.chunks_exact(RECORD).enumerate() {
+        words[i] = value_at(row, 8, Width::Eight);
+        read[i] = row[4];
     }
-}
-
-// The read byte of each key's record, from the front of `read` on. It reads each once.
-fn put_read(bytes: &[u8], keys: &[u64], read: &mut [u8])
-    requires { (length bytes.now ≡ 16 * length keys.now) × (length keys.now ≤ length read.old) }
-    ensures { read.new ≡ written read.old 0 (read_of keys.now bytes.now) }
-{
-    let mut i = 0;
-    let mut at = 0;
-    while i < keys.len() {
-        read[i] = bytes[at + 4];
-        i += 1;
-        at += 16;
-    }
-}
-
-// The answer of decoding a readings file.
-#[derive(Clone, Copy)]
-pub enum Decoded {
-    Read,
-    Refused(Refusal),
 }
 
 // Decodes a readings file: `keys` are those of the register instances in file order. The first places of `words` and `read` then hold the values and the read bytes.
 // A lent list without a place for each key is 43 at 0, and a file that does not fit the keys is 17 at 0; no lent place changes then. It reads each record twice: to
 // check it, and to write.
-pub fn decode(bytes: &[u8], keys: &[u64], words: &mut [u64], read: &mut [u8]) -> Decoded
+#[tactic(auto, using(crate::proofs::RecordLaws::file_size, crate::proofs::RecordLaws::lent_written), unfolding(crate::specs::ReadingsFile::decoding, crate::specs::ReadingsFile::decodes, crate::specs::ReadingsFile::places_for, crate::specs::ReadingsFile::lent_after))]
+pub fn decode(bytes: &[u8], keys: &[u64], words: &mut [u64], read: &mut [u8]) -> Result<(), Refusal>
     ensures answer { decoded_values result ≡ decoding keys.now bytes.now words.old read.old }
     ensures words { words.new
         ≡ lent_after (decodes keys.now bytes.now words.old read.old) (words_of keys.now bytes.now) words.old }
     ensures read { read.new
         ≡ lent_after (decodes keys.now bytes.now words.old read.old) (read_of keys.now bytes.now) read.old }
 {
-    if words.len() < keys.len() {
-        return Decoded::Refused(Refusal {
-            kind: Kind::TableTooShort,
-            place: 0,
-        });
-    }
-    if read.len() < keys.len() {
-        return Decoded::Refused(Refusal {
+    if words.len() < keys.len() || read.len() < keys.len() {
+        return Err(Refusal {
             kind: Kind::TableTooShort,
             place: 0,
         });
     }
     if !file_fits(bytes, keys) {
-        return Decoded::Refused(Refusal {
+        return Err(Refusal {
             kind: Kind::ReadingsUnfit,
             place: 0,
         });
     }
-    put_words(bytes, keys, words);
-    put_read(bytes, keys, read);
-    Decoded::Read
+    put_records(bytes, keys, words, read);
+    Ok(())
 }

@@ -1,12 +1,12 @@
 -- One turn of the loop over the records.
-use Prim.Native.Nat.{ℕ, zero, suc, ◌+◌, ◌-◌, ◌*◌, ◌/◌, ◌≤◌, ◌<◌}
+use Prim.Native.Nat.{ℕ, zero, suc, ◌+◌, ◌-◌, ◌*◌, ◌≤◌, ◌<◌}
 use mathlib.Core.Bool.{Bool, true, false}
 use mathlib.Core.List.{List, ◌∷◌}
 use mathlib.Core.Path.{◌≡◌, sym, ◌∙◌, ap}
 use native.Mathlib.Omega.{arith}
 use lib.ListN.{length, get_or}
 use Rattle.numbers.specs.Field.{field}
-use Rattle.numbers.proofs.FieldLaws.{present_yes, present_no, field-byte}
+use Rattle.numbers.proofs.FieldLaws.{present_yes, field-byte}
 use Rattle.format.specs.Parsed.{refused}
 use Rattle.records.specs.declared.Record.{Record}
 use Rattle.records.specs.declared.Before.{Before}
@@ -17,12 +17,7 @@ use Rattle.records.specs.Judging.{capped, finish, rest}
 use Rattle.records.proofs.AgainLaws.{length_from}
 use Rattle.records.proofs.OwingLaws.{rest_allowed, rest_refused, rest_end, capped_same}
 
--- A record that is whole, and one that is not.
-
-pub record_cut : (s : List ℕ) (at : ℕ) → length s < at + 16 → record { kind = 0; form = 0; amount = 0; number = 0; id = 0; value = 0 } ≡ record_within s at
-unfolding record_within
-record_cut s at l = rw (present_no s at 16 l)
-
+-- A record that is whole.
 pub record_whole : (s : List ℕ) (at : ℕ) {i v : ℕ} → at + 16 ≤ length s → i ≡ field s (at + 4) 4 → v ≡ field s (at + 8) 8
     → record {
       kind = get_or s at 0;
@@ -44,9 +39,6 @@ record_whole s at l ei ev =
 pub record_there : (s : List ℕ) (at : ℕ) → at + 16 ≤ length s → record_within s at ≡ record_at s at
 unfolding record_within
 record_there s at l = rw (present_yes s at 16 l)
-
-pub whole_within : (s : List ℕ) → 0 + length s / 16 * 16 ≤ length s
-whole_within s = omega arith
 
 -- One turn of the loop: the next record is refused, or what is before the one behind it is known.
 
@@ -72,15 +64,16 @@ module _ (s : List ℕ) (b : Before) (at left : ℕ) {r : Record} {e : Element} 
   judge_refuses f =
       rw (next_record s left at some, same) (rest_refused s b at r (records_from s (left - 1) (at + 16)) (allowed_is b r is told ∙ f))
 
-  pub judge_goes : x ≡ true → {n m : Before} → n ≡ with_element b r e → m ≡ capped (left - 1) n
-      → rest s b at (records_from s left at) ≡ rest s m (at + 16) (records_from s (left - 1) (at + 16))
-  judge_goes f {n} {m} hn hm =
-      rw (next_record s left at some, same, hm)
-      (rest_allowed s b at r (records_from s (left - 1) (at + 16)) (allowed_is b r is told ∙ f)
-      ∙ (ap (λ y. rest s y (at + 16) (records_from s (left - 1) (at + 16))) (taken_is b r is hn)
-      ∙ sym (capped_same s n (at + 16) (left - 1) (records_from s (left - 1) (at + 16)) (length_from s (left - 1) (at + 16)))))
+  pub judge_goes : x ≡ true → {n m : Before} {behind after : ℕ} → suc behind ≡ left → after ≡ at + 16 → n ≡ with_element b r e → m ≡ capped behind n
+      → rest s b at (records_from s left at) ≡ rest s m after (records_from s behind after)
+  judge_goes f {n} {m} {behind} {after} l a hn hm =
+      let k : left - 1 ≡ behind = omega arith in
+      rw (next_record s left at some, same, hm, a, k)
+      (rest_allowed s b at r (records_from s behind (at + 16)) (allowed_is b r is told ∙ f)
+      ∙ (ap (λ y. rest s y (at + 16) (records_from s behind (at + 16))) (taken_is b r is hn)
+      ∙ sym (capped_same s n (at + 16) behind (records_from s behind (at + 16)) (length_from s behind (at + 16)))))
 
-pub judge_ends : (s : List ℕ) (b : Before) (at left : ℕ) → left ≤ 0 → rest s b at (records_from s left at) ≡ finish s b at
+pub judge_ends : (s : List ℕ) (b : Before) (at left : ℕ) {end : ℕ} → left ≤ 0 → end ≡ at → rest s b at (records_from s left at) ≡ finish s b end
 unfolding records_from
-judge_ends s b at zero l = rest_end s b at
-judge_ends s b at (suc n) l = absurd (omega (arith, l))
+judge_ends s b at zero l e = rw e (rest_end s b at)
+judge_ends s b at (suc n) l e = absurd (omega (arith, l))

@@ -6,7 +6,7 @@ use mathlib.Core.Path.{◌≡◌, refl, sym, ◌∙◌, ap}
 use native.Mathlib.Omega.{arith}
 use lib.Dec.{leb, eqb}
 use lib.ListN.{length}
-use borrow.Author.Tests.{le-leb, lt-leb, eq-eqb, lt-ltb, ne_eqb, leb-true, leb-false}
+use borrow.Author.Tests.{lt-ltb, ne_eqb, leb-true, leb-false}
 use Rattle.format.specs.Parsed.{Parsed, done, refused, and_then, making, require}
 use Rattle.records.specs.declared.Record.{Record}
 use Rattle.records.specs.declared.Before.{Before}
@@ -152,17 +152,3 @@ capped_owed left b = go (leb b.owed left) refl
 pub grammar_rest : (s : List ℕ) → ◌≡◌ {A = Parsed (Unit {0})} (making (λ _. tt) (grammar s)) (rest s nothing 0 (records_from s (length s / 16) 0))
 unfolding grammar rest records_in whole_records
 grammar_rest s = ends s (judge nothing 0 (records_from s (length s / 16) 0))
-
--- The end, test by test.
-
-pub finish_cut : (s : List ℕ) (b : Before) (at : ℕ) → at < length s → finish s b at ≡ refused 40 at
-unfolding finish require
-finish_cut s b at l = rw (lt-leb (length s) at l)
-
-pub finish_owing : (s : List ℕ) (b : Before) (at : ℕ) → length s ≤ at → (b.owed ≡ 0 → ⊥) → finish s b at ≡ refused 40 at
-unfolding finish require
-finish_owing s b at l h = rw (le-leb (length s) at l, ne_eqb b.owed 0 h)
-
-pub finish_fine : (s : List ℕ) (b : Before) (at : ℕ) → length s ≤ at → b.owed ≡ 0 → finish s b at ≡ done tt at
-unfolding finish require
-finish_fine s b at l h = rw (le-leb (length s) at l, eq-eqb b.owed 0 h)

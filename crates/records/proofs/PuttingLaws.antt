@@ -1,61 +1,58 @@
 -- A record in a lent output.
-use Prim.Native.Nat.{ℕ, suc, ◌+◌, ◌/◌, ◌%◌, ◌≤◌, ◌<◌}
-use mathlib.Core.List.{List, [], ◌∷◌, append_assoc}
-use mathlib.Core.Path.{◌≡◌, sym, ◌∙◌}
-use native.Mathlib.Omega.{arith}
-use lib.ListN.{length, set, take, drop}
-use lib.Seq.{sets-eq}
+use Rattle.std.proofs.Common.{ℕ, ◌+◌, ◌-◌, ◌/◌, ◌%◌, ◌≤◌, ◌<◌, ◌≡◌, List, [], ◌∷◌, ◌++◌, append_assoc, ap, ◌∙◌, length, take, drop, length-append, length-take, length-drop, arith}
+use borrow.Rule.Slice.PartMut.{put_mid}
+use lib.Seq.{drop-drop}
+use Rattle.std.proofs.lemmas.Slice.{take-put_mid, drop-put_mid}
+use Rattle.std.specs.Int.{bytes_high_first}
 use Rattle.numbers.specs.BigEndian.{bytes_of}
-use Rattle.numbers.proofs.FieldLaws.{present_yes, present_no}
+use Rattle.numbers.proofs.FieldLaws.{present_yes}
 use Rattle.records.specs.declared.Record.{Record}
 use Rattle.records.specs.Record.{record_bytes, put_record}
 
-pub put_cut : (s : List ℕ) (at : ℕ) (r : Record) → length s < at + 16 → s ≡ put_record s at r
-unfolding put_record
-put_cut s at r l = rw (present_no s at 16 l)
+-- The bytes of numbers, as the library writes them.
 
--- The sixteen bytes of a record, by division.
-abbrev bytes16 : Record → List ℕ
-bytes16 r =
-    r.kind ∷ r.form ∷ r.amount ∷ r.number
-    ∷ r.id / 0x100_0000 % 256 ∷ r.id / 0x1_0000 % 256 ∷ r.id / 256 % 256 ∷ r.id % 256
-    ∷ r.value / 0x100_0000_0000_0000 ∷ r.value / 0x1_0000_0000_0000 % 256 ∷ r.value / 0x100_0000_0000 % 256 ∷ r.value / 0x1_0000_0000 % 256
-    ∷ r.value / 0x100_0000 % 256 ∷ r.value / 0x1_0000 % 256 ∷ r.value / 256 % 256 ∷ r.value % 256 ∷ []
+one_byte : (n : ℕ) → n < 256 → bytes_of 1 n ≡ n ∷ []
+unfolding bytes_of
+one_byte n h = let e : n / 1 % 256 ≡ n = omega arith in rw e
 
-bytes_are : (r : Record) → r.kind < 256 → r.form < 256 → r.amount < 256 → r.number < 256 → r.value < 0x1_0000_0000_0000_0000 → bytes16 r ≡ record_bytes r
-unfolding record_bytes bytes_of
-bytes_are r hk hf ha hn hv =
-    let k : r.kind / 1 % 256 ≡ r.kind = omega arith in
-    let f : r.form / 1 % 256 ≡ r.form = omega arith in
-    let a : r.amount / 1 % 256 ≡ r.amount = omega arith in
-    let n : r.number / 1 % 256 ≡ r.number = omega arith in
-    let i : r.id / 1 % 256 ≡ r.id % 256 = omega arith in
-    let v : r.value / 1 % 256 ≡ r.value % 256 = omega arith in
-    let w : r.value / 0x100_0000_0000_0000 % 256 ≡ r.value / 0x100_0000_0000_0000 = omega arith in
-    sym (rw (k, f, a, n, i, v, w))
+four_bytes : (n : ℕ) → bytes_high_first 4 (n % 0x1_0000_0000) ≡ bytes_of 4 n
+unfolding bytes_of
+four_bytes n =
+    let a : n % 0x1_0000_0000 / 0x100_0000 % 256 ≡ n / 0x100_0000 % 256 = omega arith in
+    let b : n % 0x1_0000_0000 / 0x1_0000 % 256 ≡ n / 0x1_0000 % 256 = omega arith in
+    let c : n % 0x1_0000_0000 / 256 % 256 ≡ n / 256 % 256 = omega arith in
+    let d : n % 0x1_0000_0000 % 256 ≡ n / 1 % 256 = omega arith in
+    rw (a, b, c, d)
 
-pub record_put : (s : List ℕ) (at : ℕ) (r : Record) → at + 16 ≤ length s → r.kind < 256 → r.form < 256 → r.amount < 256 → r.number < 256 → r.value < 0x1_0000_0000_0000_0000
-    → set (set (set (set (set (set (set (set (set (set (set (set (set (set (set (set s at r.kind) (at + 1) r.form) (at + 2) r.amount) (at + 3) r.number)
-    (at + 4) (r.id / 0x100_0000 % 256)) (at + 5) (r.id / 0x1_0000 % 256)) (at + 6) (r.id / 256 % 256)) (at + 7) (r.id % 256))
-    (at + 8) (r.value / 0x100_0000_0000_0000)) (at + 9) (r.value / 0x1_0000_0000_0000 % 256)) (at + 10) (r.value / 0x100_0000_0000 % 256)) (at + 11) (r.value / 0x1_0000_0000 % 256))
-    (at + 12) (r.value / 0x100_0000 % 256)) (at + 13) (r.value / 0x1_0000 % 256)) (at + 14) (r.value / 256 % 256)) (at + 15) (r.value % 256)
-    ≡ put_record s at r
-unfolding put_record
-record_put s at r l hk hf ha hn hv =
-    let e1 : at + 1 ≡ suc at = omega arith in
-    let e2 : at + 2 ≡ suc (suc at) = omega arith in
-    let e3 : at + 3 ≡ suc (suc (suc at)) = omega arith in
-    let e4 : at + 4 ≡ suc (suc (suc (suc at))) = omega arith in
-    let e5 : at + 5 ≡ suc (suc (suc (suc (suc at)))) = omega arith in
-    let e6 : at + 6 ≡ suc (suc (suc (suc (suc (suc at))))) = omega arith in
-    let e7 : at + 7 ≡ suc (suc (suc (suc (suc (suc (suc at)))))) = omega arith in
-    let e8 : at + 8 ≡ suc (suc (suc (suc (suc (suc (suc (suc at))))))) = omega arith in
-    let e9 : at + 9 ≡ suc (suc (suc (suc (suc (suc (suc (suc (suc at)))))))) = omega arith in
-    let e10 : at + 10 ≡ suc (suc (suc (suc (suc (suc (suc (suc (suc (suc at))))))))) = omega arith in
-    let e11 : at + 11 ≡ suc (suc (suc (suc (suc (suc (suc (suc (suc (suc (suc at)))))))))) = omega arith in
-    let e12 : at + 12 ≡ suc (suc (suc (suc (suc (suc (suc (suc (suc (suc (suc (suc at))))))))))) = omega arith in
-    let e13 : at + 13 ≡ suc (suc (suc (suc (suc (suc (suc (suc (suc (suc (suc (suc (suc at)))))))))))) = omega arith in
-    let e14 : at + 14 ≡ suc (suc (suc (suc (suc (suc (suc (suc (suc (suc (suc (suc (suc (suc at))))))))))))) = omega arith in
-    let e15 : at + 15 ≡ suc (suc (suc (suc (suc (suc (suc (suc (suc (suc (suc (suc (suc (suc (suc at)))))))))))))) = omega arith in
-    rw (e1, e2, e3, e4, e5, e6, e7, e8, e9, e10, e11, e12, e13, e14, e15, present_yes s at 16 l, ← bytes_are r hk hf ha hn hv)
-    (sets-eq (bytes16 r) s at l ∙ append_assoc (take at s) (bytes16 r) (drop (at + 16) s))
+eight_bytes : (n : ℕ) → bytes_high_first 8 n ≡ bytes_of 8 n
+unfolding bytes_of
+eight_bytes n = let e : n % 256 ≡ n / 1 % 256 = omega arith in rw e
+
+-- A part that was written leaves the length as it was.
+length_put : (s : List ℕ) (at k : ℕ) (xs : List ℕ) → at + k ≤ length s → length xs ≡ k → length (put_mid at k s xs) ≡ length s
+length_put s at k xs l e = simp (length-append, length-take, length-drop) (omega arith)
+
+-- Three parts, one behind another.
+three_parts : (s : List ℕ) (at : ℕ) (xs ys zs : List ℕ) → at + 16 ≤ length s → length xs ≡ 4 → length ys ≡ 4
+    → put_mid (at + 8) (at + 16 - (at + 8)) (put_mid (at + 4) (at + 8 - (at + 4)) (put_mid at (at + 4 - at) s xs) ys) zs
+    ≡ take at s ++ (xs ++ (ys ++ (zs ++ drop (at + 16) s)))
+three_parts s at xs ys zs l ex ey =
+    let one = put_mid at (at + 4 - at) s xs in
+    let two = put_mid (at + 4) (at + 8 - (at + 4)) one ys in
+    let len : length one ≡ length s = length_put s at (at + 4 - at) xs (omega arith) (omega arith) in
+    let first : take (at + 4) one ≡ take at s ++ xs = take-put_mid at (at + 4 - at) s xs (at + 4) (omega arith) (omega arith) in
+    let second : take (at + 8) two ≡ take (at + 4) one ++ ys = take-put_mid (at + 4) (at + 8 - (at + 4)) one ys (at + 8) (omega arith) (omega arith) in
+    let sum : at + 8 + (at + 16 - (at + 8)) ≡ at + 16 = omega arith in
+    let behind : drop (at + 16 - (at + 8)) (drop (at + 8) two) ≡ drop (at + 16) s =
+    drop-drop (at + 16 - (at + 8)) (at + 8) two ∙ ap (λ k. drop k two) sum
+    ∙ drop-put_mid (at + 4) (at + 8 - (at + 4)) one ys (at + 16) (omega arith) (omega arith) (omega arith)
+    ∙ drop-put_mid at (at + 4 - at) s xs (at + 16) (omega arith) (omega arith) (omega arith) in
+    rw (behind, second, first) (simp append_assoc)
+
+-- They are a whole record.
+pub record_put : (s : List ℕ) (at : ℕ) (r : Record) {xs ys zs : List ℕ} → at + 16 ≤ length s → r.kind < 256 → r.form < 256 → r.amount < 256 → r.number < 256
+    → xs ≡ r.kind ∷ r.form ∷ r.amount ∷ r.number ∷ [] → ys ≡ bytes_high_first 4 (r.id % 0x1_0000_0000) → zs ≡ bytes_high_first 8 r.value
+    → put_mid (at + 8) (at + 16 - (at + 8)) (put_mid (at + 4) (at + 8 - (at + 4)) (put_mid at (at + 4 - at) s xs) ys) zs ≡ put_record s at r
+unfolding put_record record_bytes
+record_put s at r {xs} {ys} {zs} l hk hf ha hn ex ey ez =
+    rw (three_parts s at xs ys zs l (rw ex) (rw ey), present_yes s at 16 l, one_byte r.kind hk, one_byte r.form hf, one_byte r.amount ha, one_byte r.number hn, ← four_bytes r.id, ← eight_bytes r.value, ex, ey, ez)

@@ -1,15 +1,25 @@
 -- The grammar as the code goes through it.
-use Rattle.std.specs.Prelude.{ℕ, ◌+◌, Bool, cond, ◌&&◌, List, leb, eqb, length}
+use Rattle.std.specs.Prelude.{ℕ, suc, ◌+◌, ◌^◌, ◌≡◌, Bool, cond, ◌&&◌, List, Result, Ok, Err, leb, eqb, length}
 use Rattle.format.specs.Parsed.{Parsed, done, refused, and_then, require}
+use Rattle.format.specs.declared.Refusal.{Refusal}
 use Rattle.format.specs.Refusals.{number_of}
 use Rattle.records.specs.declared.Record.{Record}
 use Rattle.records.specs.declared.Before.{Before}
-use Rattle.records.specs.declared.grammar.Judged.{Judged}
-use Rattle.records.specs.Grammar.{before_of, judge}
+use Rattle.records.specs.declared.grammar.Largest.{Largest}
+use Rattle.records.specs.Grammar.{Widths, before_of, judge}
 
-abbrev pub judged_parsed : Judged → Parsed (Unit {0})
-judged_parsed (Judged.Taken at) = done tt at
-judged_parsed (Judged.Refused r) = refused (number_of r.kind) r.place
+-- The place after the records, or a refusal.
+abbrev pub judged_parsed : Result ℕ Refusal → Parsed (Unit {0})
+judged_parsed (Ok at) = done tt at
+judged_parsed (Err r) = refused (number_of r.kind) r.place
+
+-- The largest value of each field in so many bytes.
+pub record LargestOf (w : Widths) (m : Largest) : Type 0 where
+  pub form : suc m.form ≡ 256 ^ w.form
+  pub amount : suc m.amount ≡ 256 ^ w.amount
+  pub number : suc m.number ≡ 256 ^ w.number
+  pub id : suc m.id ≡ 256 ^ w.id
+  pub value : suc m.value ≡ 256 ^ w.value
 
 -- No field is above these values.
 unfoldable pub within : ℕ → ℕ → ℕ → ℕ → ℕ → Record → Bool

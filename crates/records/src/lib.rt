@@ -2,18 +2,19 @@
 #![tactic(auto)]
 
 ghost use Rattle.std.specs.Prelude.{◌+◌, ◌≤◌, ◌≡◌, length};
-ghost use Rattle.numbers.specs.Field.{size_of, field};
+ghost use Rattle.numbers.specs.Field.{size_of, present, field};
 ghost use Rattle.format.specs.Fields.{address_size};
 ghost use Rattle.records.specs.Record.{record_within, put_record};
 ghost use Rattle.records.specs.Grammar.{expression_of, element_of, nothing};
 ghost use Rattle.records.specs.Ranks.{Ranked};
 ghost use Rattle.records.specs.Sizes.{own_size};
 
-use numbers::{NumberRead, Width, number_at};
+use numbers::{Width, number_at};
 
 pub mod grammar;
 
 // A record by its fields. The form is its type.
+// Kept: the kind and the form are numbers, since they are bytes of the format and any byte may stand there.
 #[derive(Clone, Copy)]
 pub struct Record {
     pub kind: u8,
@@ -23,6 +24,16 @@ pub struct Record {
     pub id: u64,
     pub value: u64,
 }
+
+// The record of zeros, which is no element.
+pub const ZEROS: Record = Record {
+    kind: 0,
+    form: 0,
+    amount: 0,
+    number: 0,
+    id: 0,
+    value: 0,
+};
 
 // What a record is: an element of the file, by its kind and, of an expression, by its type; or, of another kind or type, `Unknown`.
 #[derive(Clone, Copy)]
@@ -84,16 +95,15 @@ pub fn nothing_before() -> Before
 fn rank_of(form: u8) -> u8
     ensures { Ranked form result }
 {
-    if form < 3 {
-        return form;
+    match form {
+        0..=2 => form,
+        3..=0xF => 0,
+        _ => form - 13,
     }
-    if form < 0x10 {
-        return 0;
-    }
-    form - 13
 }
 
 // What an expression of a type is.
+#[tactic(auto, unfolding(crate::specs::Grammar::expression_of))]
 pub fn expression_of(form: u8) -> Element
     ensures { result ≡ expression_of form }
 {
@@ -110,6 +120,7 @@ pub fn expression_of(form: u8) -> Element
 }
 
 // What a record of a kind and a type is.
+#[tactic(auto, unfolding(crate::specs::Grammar::element_of))]
 pub fn element_of(kind: u8, form: u8) -> Element
     ensures { result ≡ element_of kind form }
 {
@@ -128,6 +139,7 @@ pub fn element_of(kind: u8, form: u8) -> Element
 }
 
 // How many bytes the addresses of a register of a type have.
+#[tactic(auto, unfolding(format::specs::Fields::address_size))]
 pub fn address_size(form: u8) -> u8
     ensures { result ≡ address_size form }
 {
@@ -141,58 +153,43 @@ pub fn own_size(size: u8, e: Element) -> usize
     match e {
         Element::Register => 6,
         Element::RegisterInstance => 1 + size as usize,
-        Element::Node => 4,
-        Element::NodeInstance => 4,
-        Element::Capture => 4,
-        Element::Rule => 1,
+        Element::Node | Element::NodeInstance | Element::Capture => 4,
+        Element::Rule | Element::Inverse => 1,
         Element::Reading => 5,
         Element::Constant => 9,
-        Element::All => 2,
-        Element::Any => 2,
-        Element::Inverse => 1,
-        Element::Left => 2,
-        Element::Right => 2,
-        Element::Child => 4,
-        Element::Root => 4,
+        Element::All | Element::Any | Element::Left | Element::Right => 2,
+        Element::Child | Element::Root => 4,
         Element::Unknown => 0,
     }
 }
 
 // The number of four or eight bytes that are there.
+#[tactic(auto, unfolding(numbers::specs::Field::number_at, numbers::specs::Field::present))]
 fn field_at(s: &[u8], at: usize, w: Width) -> u64
     requires { at + size_of w ≤ length s.now }
     ensures { result ≡ field s.now at (size_of w) }
 {
-    let n = number_at(s, at, w);
-    match n {
-        NumberRead::Number(value, _) => value,
-        NumberRead::Cut => 0,
+    match number_at(s, at, w) {
+        Some((value, _)) => value,
+        None => 0,
     }
 }
 
+// Whether the 16 bytes of a record stand at a place.
+#[tactic(auto, unfolding(numbers::specs::Field::present))]
+fn has_record(s: &[u8], at: usize) -> bool
+    ensures { result ≡ present s.now at 16 }
+{
+    16 <= s.len() && at <= s.len() - 16
+}
+
 // The record at a place where 16 bytes stand; elsewhere one of zeros.
+#[tactic(auto, unfolding(numbers::specs::Field::present, crate::specs::Record::record_within, crate::specs::Record::record_at))]
 pub fn record_at(s: &[u8], at: usize) -> Record
     ensures { result ≡ record_within s.now at }
 {
-    if s.len() < 16 {
-        return Record {
-            kind: 0,
-            form: 0,
-            amount: 0,
-            number: 0,
-            id: 0,
-            value: 0,
-        };
-    }
-    if s.len() - 16 < at {
-        return Record {
-            kind: 0,
-            form: 0,
-            amount: 0,
-            number: 0,
-            id: 0,
-            value: 0,
-        };
+    if !has_record(s, at) {
+        return ZEROS;
     }
     Record {
         kind: s[at],
@@ -205,29 +202,15 @@ pub fn record_at(s: &[u8], at: usize) -> Record
 }
 
 // A record at a place of a lent output, where there is room for it.
+#[tactic(auto, unfolding(numbers::specs::Field::present, crate::specs::Record::put_record))]
 pub fn put_record(out: &mut [u8], at: usize, r: Record)
     ensures { out.new ≡ put_record out.old at r }
 {
-    if out.len() < 16 {
+    if !has_record(out, at) {
         return;
     }
-    if out.len() - 16 < at {
-        return;
-    }
-    out[at] = r.kind;
-    out[at + 1] = r.form;
-    out[at + 2] = r.amount;
-    out[at + 3] = r.number;
-    out[at + 4] = (r.id / 0x100_0000 % 256) as u8;
-    out[at + 5] = (r.id / 0x1_0000 % 256) as u8;
-    out[at + 6] = (r.id / 256 % 256) as u8;
-    out[at + 7] = (r.id % 256) as u8;
-    out[at + 8] = (r.value / 0x100_0000_0000_0000) as u8;
-    out[at + 9] = (r.value / 0x1_0000_0000_0000 % 256) as u8;
-    out[at + 10] = (r.value / 0x100_0000_0000 % 256) as u8;
-    out[at + 11] = (r.value / 0x1_0000_0000 % 256) as u8;
-    out[at + 12] = (r.value / 0x100_0000 % 256) as u8;
-    out[at + 13] = (r.value / 0x1_0000 % 256) as u8;
-    out[at + 14] = (r.value / 256 % 256) as u8;
-    out[at + 15] = (r.value % 256) as u8;
+    let id = (r.id % 0x1_0000_0000) as u32;
+    out[at..at + 4].copy_from_slice(&[r.kind, r.form, r.amount, r.number]);
+    out[at + 4..at + 8].copy_from_slice(&id.to_be_bytes());
+    out[at + 8..at + 16].copy_from_slice(&r.value.to_be_bytes());
 }

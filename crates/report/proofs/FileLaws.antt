@@ -130,7 +130,7 @@ first_in keys {m} h k = omega (arith, length-take-le m keys h)
 
 -- The tables for the readings
 module _ (m words read : ℕ) where
-  pub short_words : words < m → false ≡ both_fit m words read
+  pub short_words : words < m → leb m words ≡ both_fit m words read
   unfolding both_fit
   short_words h = rw (lt-leb _ _ h)
 

@@ -1,4 +1,6 @@
 -- The text of an answer by a short list: while the records have room there, it is that by a longer one.
+use Rattle.std.specs.Prelude.{Result, Ok, Err}
+use Rattle.format.specs.declared.Refusal.{Refusal}
 use Prim.Native.Nat.{ℕ, ◌*◌, ◌/◌, ◌≤◌}
 use mathlib.Core.Bool.{Bool, true, false, cond}
 use mathlib.Core.List.{List, [], ◌++◌}
@@ -11,7 +13,7 @@ use Rattle.limits.specs.declared.LimitSet.{LimitSet}
 use Rattle.limits.specs.Limits.{program_limits, limits_of}
 use Rattle.numbers.specs.BigEndian.{Bytes}
 use Rattle.listing.specs.Records.{record_size}
-use Rattle.isolation.specs.declared.Isolated.{Isolated}
+use Rattle.isolation.specs.declared.Isolation.{Isolation}
 use Rattle.isolation.specs.Outcome.{Outcome, done_outcome, refused_outcome, outcome_of, Findings, stopped, found, written, in_list}
 use Rattle.isolation.proofs.OutcomeLaws.{found-length}
 use Rattle.report.specs.Report.{find_file, isolate_file}
@@ -66,7 +68,7 @@ file-length file bytes attention readings n records steps e =
     found-length LimitSet.Program 0 file attention x.0 x.1 (x.2 ∙ e)
 
 -- The code's answer by a list of zeros.
-module _ (file : List ℕ) (attention : ℕ) (readings : List ℕ) (n : ℕ) (a : Isolated) (after : List ℕ) (is : outcome_of a after ≡ isolate_file program_limits file attention readings (replicate n 0)) where
+module _ (file : List ℕ) (attention : ℕ) (readings : List ℕ) (n : ℕ) (a : Result Isolation Refusal) (after : List ℕ) (is : outcome_of a after ≡ isolate_file program_limits file attention readings (replicate n 0)) where
   -- Its records have room.
   pub answer_room : n ≤ 65536 → length after ≡ length (replicate {A = ℕ} n 0) → ((outcome_of a after).records ≤ 4096) × ((outcome_of a after).records * 16 ≤ length after)
   unfolding isolate_file
@@ -85,6 +87,6 @@ module _ (file : List ℕ) (attention : ℕ) (readings : List ℕ) (n : ℕ) (a 
       ∙ (found_same (replicate n 0) (replicate m 0) l (find_file program_limits file attention readings) (file-length file bytes attention readings)).text
       (λ z. eqb-false (outcome_of a []).number 19 (sym e ∙ f) (number_is a ∙ ap (λ o. o.number) is ∙ z))
     where
-      number_is : (a : Isolated) → (outcome_of a []).number ≡ (outcome_of a after).number
-      number_is (Isolated.Done i) = refl
-      number_is (Isolated.Refused r) = refl
+      number_is : (a : Result Isolation Refusal) → (outcome_of a []).number ≡ (outcome_of a after).number
+      number_is (Ok i) = refl
+      number_is (Err r) = refl

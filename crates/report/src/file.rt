@@ -11,7 +11,7 @@ ghost use Rattle.isolation.specs.Ready.{both_fit, room_in};
 ghost use Rattle.report.specs.Report.{isolate_file};
 
 use format::{Kind, Refusal};
-use isolation::Isolated;
+use isolation::Isolation;
 use isolation::answer::{answer, is_exact};
 use limits::LimitSet;
 use limits::classes::{
@@ -20,16 +20,13 @@ use limits::classes::{
 };
 use reader::examined::examine_in;
 use reader::{Layout, LayoutRead};
-use readings::{Decoded, decode};
+use readings::decode;
 
 // Whether two tables of these lengths have a place for each of n.
 fn both_fit(n: usize, first: usize, second: usize) -> bool
     ensures { result ≡ both_fit n first second }
 {
-    if first < n {
-        return false;
-    }
-    n <= second
+    n <= first && n <= second
 }
 
 // Decodes a readings file, and says how many readings there then are. One that does not fit has none.
@@ -41,10 +38,9 @@ fn decode_named(readings: &[u8], keys: &[u64], words: &mut [u64], read: &mut [u8
     ensures read { read.new
         ≡ lent_after (decodes keys.now readings.now words.old read.old) (read_of keys.now readings.now) read.old }
 {
-    let d = decode(readings, keys, words, read);
-    match d {
-        Decoded::Read => keys.len(),
-        Decoded::Refused(_) => 0,
+    match decode(readings, keys, words, read) {
+        Ok(()) => keys.len(),
+        Err(_) => 0,
     }
 }
 
@@ -64,7 +60,7 @@ fn isolate_named(
     unread: &mut [u64],
     words: &mut [u64],
     read: &mut [u8],
-) -> Isolated
+) -> Result<Isolation, Refusal>
     ensures { (of : LimitSet)
         → Examined of file.now l keys.now index.now names.now places.old child.now
         → outcome_of result list.new
@@ -74,13 +70,13 @@ fn isolate_named(
 {
     let m = l.register_instances;
     if keys.len() < m {
-        return Isolated::Refused(Refusal {
+        return Err(Refusal {
             kind: Kind::TableTooShort,
             place: 0,
         });
     }
     if !both_fit(m, words.len(), read.len()) {
-        return Isolated::Refused(Refusal {
+        return Err(Refusal {
             kind: Kind::TableTooShort,
             place: 0,
         });
@@ -120,20 +116,20 @@ fn isolate_in(
     unread: &mut [u64],
     words: &mut [u64],
     read: &mut [u8],
-) -> Isolated
+) -> Result<Isolation, Refusal>
     ensures { outcome_of result list.new
         ≡ cond (both_fit (length keys.old) (length words.old) (length read.old) && room_in program_limits (lengths_of keys.old kinds.old names.old wanted.old places.old child.old) (length unread.old) file.now)
         (isolate_file program_limits file.now attention readings.now list.old)
         (refused_outcome 43 0 list.old) }
 {
     if !both_fit(keys.len(), words.len(), read.len()) {
-        return Isolated::Refused(Refusal {
+        return Err(Refusal {
             kind: Kind::TableTooShort,
             place: 0,
         });
     }
     if unread.len() < names.len() {
-        return Isolated::Refused(Refusal {
+        return Err(Refusal {
             kind: Kind::TableTooShort,
             place: 0,
         });
@@ -156,12 +152,17 @@ fn isolate_in(
             file, l, attention, readings, list, index, keys, names, places, child, wanted, unread,
             words, read,
         ),
-        LayoutRead::Refused(r) => Isolated::Refused(r),
+        LayoutRead::Refused(r) => Err(r),
     }
 }
 
 // With the tables of the small class.
-fn isolate_small(file: &[u8], attention: u8, readings: &[u8], list: &mut [u8]) -> Isolated
+fn isolate_small(
+    file: &[u8],
+    attention: u8,
+    readings: &[u8],
+    list: &mut [u8],
+) -> Result<Isolation, Refusal>
     ensures { outcome_of result list.new
         ≡ cond (room_for program_limits (class_room small) file.now)
         (isolate_file program_limits file.now attention readings.now list.old)
@@ -198,7 +199,12 @@ fn isolate_small(file: &[u8], attention: u8, readings: &[u8], list: &mut [u8]) -
 }
 
 // With those of the middle one.
-fn isolate_middle(file: &[u8], attention: u8, readings: &[u8], list: &mut [u8]) -> Isolated
+fn isolate_middle(
+    file: &[u8],
+    attention: u8,
+    readings: &[u8],
+    list: &mut [u8],
+) -> Result<Isolation, Refusal>
     ensures { outcome_of result list.new
         ≡ cond (room_for program_limits (class_room middle) file.now)
         (isolate_file program_limits file.now attention readings.now list.old)
@@ -235,7 +241,12 @@ fn isolate_middle(file: &[u8], attention: u8, readings: &[u8], list: &mut [u8]) 
 }
 
 // With those of the large one, which has room for every file of the program.
-fn isolate_large(file: &[u8], attention: u8, readings: &[u8], list: &mut [u8]) -> Isolated
+fn isolate_large(
+    file: &[u8],
+    attention: u8,
+    readings: &[u8],
+    list: &mut [u8],
+) -> Result<Isolation, Refusal>
     ensures { outcome_of result list.new
         ≡ cond (room_for program_limits (class_room large) file.now)
         (isolate_file program_limits file.now attention readings.now list.old)
@@ -278,7 +289,7 @@ fn isolate_with(
     readings: &[u8],
     list: &mut [u8],
     larger: usize,
-) -> Isolated
+) -> Result<Isolation, Refusal>
     ensures { outcome_of result list.new ≡ isolate_file program_limits file.now attention readings.now list.old }
 {
     if larger < 2 {
@@ -299,7 +310,12 @@ fn isolate_with(
 }
 
 // Isolation of a file with the readings of a readings file, by the program's limits. A readings file that does not fit is refused with 17, after the file's own refusals, 15 and 16. It takes the tables that most files of such a length fit, and larger ones where they are too short.
-pub fn isolate_file(file: &[u8], attention: u8, readings: &[u8], list: &mut [u8]) -> Isolated
+pub fn isolate_file(
+    file: &[u8],
+    attention: u8,
+    readings: &[u8],
+    list: &mut [u8],
+) -> Result<Isolation, Refusal>
     ensures { outcome_of result list.new ≡ isolate_file program_limits file.now attention readings.now list.old }
 {
     isolate_with(file, attention, readings, list, larger_classes(file.len()))

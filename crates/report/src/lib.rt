@@ -9,8 +9,8 @@ ghost use Rattle.report.specs.Text.{Put, decimal, named, bit_line, record_line, 
 ghost use Rattle.report.specs.Report.{report};
 
 use crate::file::isolate_file;
-use format::number;
-use isolation::Isolated;
+use format::{Refusal, number};
+use isolation::Isolation;
 use limits::classes::larger_classes;
 
 pub mod file;
@@ -127,30 +127,24 @@ fn put_refused(text: &mut [u8], number: u8, place: usize) -> usize
 }
 
 // The text of an answer, by the list that its records stand in.
-fn put_answer(text: &mut [u8], a: Isolated, list: &[u8]) -> usize
+fn put_answer(text: &mut [u8], a: Result<Isolation, Refusal>, list: &[u8]) -> usize
     requires { ((outcome_of a list.now).records ≤ 4096) × ((outcome_of a list.now).records * 16 ≤ length list.now) }
     ensures put { Put text.old 0 (text_of (outcome_of a list.now)) text.new result }
     ensures upper_bound { result ≤ 152000 }
 {
     match a {
-        Isolated::Done(i) => put_done(text, list, i.records, i.steps),
-        Isolated::Refused(r) => {
-            let kind = r.kind;
-            put_refused(text, number(kind), r.place)
-        }
+        Ok(i) => put_done(text, list, i.records, i.steps),
+        Err(r) => put_refused(text, number(r.kind), r.place),
     }
 }
 
 // Whether an answer is that the list has no room for the records.
-fn lacks_room(a: Isolated) -> bool
+fn lacks_room(a: Result<Isolation, Refusal>) -> bool
     ensures { result ≡ eqb (outcome_of a []).number 19 }
 {
     match a {
-        Isolated::Done(_) => false,
-        Isolated::Refused(r) => {
-            let kind = r.kind;
-            number(kind) == 19
-        }
+        Ok(_) => false,
+        Err(r) => number(r.kind) == 19,
     }
 }
 

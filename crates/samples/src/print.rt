@@ -1,109 +1,62 @@
 // Calls on a sample, and what came out, in lines that begin with the sample's name.
-use crate::build::part;
-use format::{Checked, Refusal, Summary, number};
-use isolation::{Isolated, isolate};
-use numbers::{ByteRead, NumberRead, Width, byte_at, number_at};
+ghost use Rattle.std.specs.Prelude.{◌≡◌, length};
+
+use crate::build::first;
+use format::{Refusal, Summary, number};
+use isolation::isolate;
+use numbers::{Width, number_at};
 use reader::check;
 use report::report;
 use std::io;
 
-// A name and a number.
-fn print_number(rt: &impl Print, name: &str, n: u64) -> io::Result<()> {
-    print!(rt; " {name} {n}")
-}
-
-// What each line begins with.
-fn begin_line(rt: &impl Print, sample: &str) -> io::Result<()> {
-    print!(rt; "{sample}:")
-}
-
-// What each line ends with.
-fn end_line(rt: &impl Print) -> io::Result<()> {
-    println!(rt)
-}
+// The bytes of a record of the list.
+const RECORD: usize = 16;
 
 // A refusal: its number and its place.
 fn print_refusal(rt: &impl Print, sample: &str, r: Refusal) -> io::Result<()> {
-    let kind = r.kind;
-    begin_line(rt, sample)?;
-    print_number(rt, "refused", number(kind) as u64)?;
-    print_number(rt, "place", r.place as u64)?;
-    end_line(rt)
+    println!(rt; "{sample}: refused {} place {}", number(r.kind), r.place)
 }
 
 // What an accepted file holds.
 fn print_summary(rt: &impl Print, sample: &str, s: Summary) -> io::Result<()> {
-    begin_line(rt, sample)?;
-    print!(rt; " accepted")?;
-    print_number(rt, "model", s.model)?;
-    print_number(rt, "registers", s.registers as u64)?;
-    print_number(rt, "register instances", s.register_instances as u64)?;
-    print_number(rt, "nodes", s.nodes as u64)?;
-    print_number(rt, "node instances", s.node_instances as u64)?;
-    print_number(rt, "roots", s.roots as u64)?;
-    end_line(rt)
+    print!(rt;
+        "{sample}: accepted model {} registers {}",
+        s.model, s.registers
+    )?;
+    print!(rt;
+        " register instances {} nodes {}",
+        s.register_instances, s.nodes
+    )?;
+    println!(rt; " node instances {} roots {}", s.node_instances, s.roots)
 }
 
-// The byte at a place.
-fn byte(s: &[u8], at: usize) -> u64 {
-    let b = byte_at(s, at);
-    match b {
-        ByteRead::Byte(value, _) => value as u64,
-        ByteRead::Cut => 0,
-    }
-}
-
-// The number of so many bytes at a place.
+// The number of so many bytes at a place; 0 where they are not there.
 fn wide(s: &[u8], at: usize, width: Width) -> u64 {
-    let n = number_at(s, at, width);
-    match n {
-        NumberRead::Number(value, _) => value,
-        NumberRead::Cut => 0,
+    match number_at(s, at, width) {
+        Some((value, _)) => value,
+        None => 0,
     }
 }
 
 // A record of the list: model/level (4 bytes), attention type, bit, node ID (2 bytes), instance, slot, six zeros.
-fn print_record(rt: &impl Print, sample: &str, record: &[u8]) -> io::Result<()> {
-    begin_line(rt, sample)?;
-    print_number(rt, "model", wide(record, 0, Width::Four))?;
-    print_number(rt, "type", byte(record, 4))?;
-    print_number(rt, "node", wide(record, 6, Width::Two))?;
-    print_number(rt, "inst", byte(record, 8))?;
-    print_number(rt, "bit", byte(record, 5))?;
-    print_number(rt, "slot", byte(record, 9))?;
-    end_line(rt)
-}
-
-// The first records of a list, as many as there are.
-fn print_records(rt: &impl Print, sample: &str, list: &[u8], records: usize) -> io::Result<()> {
-    let mut at = 0;
-    for _ in 0..records {
-        if list.len() - at < 16 {
-            break;
-        }
-        print_record(rt, sample, part(list, at, 16))?;
-        at += 16;
-    }
-    Ok(())
-}
-
-// The step count.
-fn print_steps(rt: &impl Print, sample: &str, steps: usize) -> io::Result<()> {
-    begin_line(rt, sample)?;
-    print_number(rt, "steps", steps as u64)?;
-    end_line(rt)
+fn print_record(rt: &impl Print, sample: &str, row: &[u8]) -> io::Result<()>
+    requires { length row.now ≡ 16 }
+{
+    let model = wide(row, 0, Width::Four);
+    let node = wide(row, 6, Width::Two);
+    print!(rt; "{sample}: model {model} type {} node {node}", row[4])?;
+    println!(rt; " inst {} bit {} slot {}", row[8], row[5], row[9])
 }
 
 // The checker's answer.
 pub fn print_check(rt: &impl Print, sample: &str, file: &[u8]) -> io::Result<()> {
-    let c = check(file);
-    match c {
-        Checked::Accepted(s) => print_summary(rt, sample, s),
-        Checked::Refused(r) => print_refusal(rt, sample, r),
+    match check(file) {
+        Ok(s) => print_summary(rt, sample, s),
+        Err(r) => print_refusal(rt, sample, r),
     }
 }
 
-// The answer of isolation, with a list of 32 records.
+// The answer of isolation, with a list of 32 records: the records, and the step count.
 pub fn print_isolation(
     rt: &impl Print,
     sample: &str,
@@ -112,14 +65,15 @@ pub fn print_isolation(
     words: &[u64],
     read: &[u8],
 ) -> io::Result<()> {
-    let mut list = [0u8; 512];
-    let a = isolate(file, attention, words, read, &mut list);
-    match a {
-        Isolated::Done(i) => {
-            print_records(rt, sample, &list, i.records)?;
-            print_steps(rt, sample, i.steps)
+    let mut list = [0u8; 32 * RECORD];
+    match isolate(file, attention, words, read, &mut list) {
+        Ok(i) => {
+            for row in list.chunks_exact(RECORD).take(i.records) {
+                print_record(rt, sample, row)?;
+            }
+            println!(rt; "{sample}: steps {}", i.steps)
         }
-        Isolated::Refused(r) => print_refusal(rt, sample, r),
+        Err(r) => print_refusal(rt, sample, r),
     }
 }
 
@@ -127,8 +81,6 @@ pub fn print_isolation(
 pub fn print_station(rt: &impl Print, sample: &str, file: &[u8]) -> io::Result<()> {
     let mut text = [0u8; 64];
     let n = report(file, 3, &[], &mut text);
-    print!(rt; "station, ")?;
-    begin_line(rt, sample)?;
-    print!(rt; " ")?;
-    rt.write_all(part(&text, 0, n))
+    print!(rt; "station, {sample}: ")?;
+    rt.write_all(first(&text, n))
 }

@@ -1,12 +1,15 @@
 -- The laws of tables of numbers.
+use Rattle.std.specs.Prelude.{Bool, true, false, cond, not, Option, Some, None}
+use Rattle.std.specs.List.{position_or_len, position as first_position}
+use Rattle.std.specs.Option.{unwrap_or}
 use Prim.Native.Nat.{ℕ, zero, suc, ◌+◌, ◌≤◌, ◌<◌}
 use mathlib.Core.List.{List, [], ◌∷◌, ◌++◌}
-use mathlib.Core.Path.{◌≡◌, refl, ap, ◌∙◌}
+use mathlib.Core.Path.{◌≡◌, refl, sym, ap, ◌∙◌}
 use native.Mathlib.Omega.{arith}
-use lib.Dec.{eqb}
+use lib.Dec.{eqb, ltb}
 use lib.ListN.{length, take, drop, get_or, set, length-set}
-use lib.Seq.{take-append_seam}
-use borrow.Author.Tests.{eq-eqb, ne_eqb}
+use lib.Seq.{take-append_seam, set_out}
+use borrow.Author.Tests.{eq-eqb, ne_eqb, ltb-false}
 use Rattle.format.specs.Lookup.{position}
 use Rattle.tables.specs.Tables.{written}
 
@@ -26,11 +29,37 @@ position_none [] x b = refl
 position_none (y ∷ t) x b =
     simp (ne_eqb y x (b 0 (omega arith))) (ap suc (position_none t x (λ k l. b (suc k) (omega arith))))
 
+-- The library's search.
+
+same_position : (p : ℕ → Bool) (t : List ℕ) → position_or_len p t ≡ position p t
+unfolding position
+same_position p [] = refl
+same_position p (y ∷ t) = go (p y) (same_position p t)
+  where
+    go : (b : Bool) {m n : ℕ} → m ≡ n → cond (not b) (1 + m) 0 ≡ cond b 0 (suc n)
+    go true e = refl
+    go false e = omega arith
+
+position_most : (p : ℕ → Bool) (t : List ℕ) → position p t ≤ length t
+unfolding position
+position_most p [] = omega arith
+position_most p (y ∷ t) = go (p y) (position_most p t)
+  where
+    go : (b : Bool) {m n : ℕ} → m ≤ n → cond b 0 (suc m) ≤ suc n
+    go true h = omega arith
+    go false h = omega arith
+
+-- The position that was found, or else the length.
+pub position_or : (p : ℕ → Bool) (t : List ℕ) {r : Option ℕ} → r ≡ first_position p t → unwrap_or r (length t) ≡ position p t
+position_or p t e = rw (e, same_position p t) (go (ltb (position p t) (length t)) refl)
+  where
+    go : (b : Bool) → ltb (position p t) (length t) ≡ b → unwrap_or (cond b (Some (position p t)) None) (length t) ≡ position p t
+    go true e = refl
+    go false e = omega (arith, ltb-false _ _ e, position_most p t)
+
 -- A place that a table has not.
 pub set_beyond : (t : List ℕ) (k x : ℕ) → length t ≤ k → t ≡ set t k x
-set_beyond [] k x h = refl
-set_beyond (y ∷ t) zero x h = absurd (omega arith)
-set_beyond (y ∷ t) (suc k) x h = ap (λ u. y ∷ u) (set_beyond t k x (omega arith))
+set_beyond t k x h = sym (set_out t k x h)
 
 -- Writing.
 

@@ -9,6 +9,7 @@ ghost use Rattle.tables.specs.Tables.{key_of};
 pub mod positions;
 
 // What the name of a register instance or a node instance is kept as: its ID and its number in one.
+#[tactic(auto, unfolding(crate::specs::Tables::key_of))]
 pub fn key(id: u64, number: u8) -> u64
     ensures { result ≡ key_of id number }
 {
@@ -19,25 +20,19 @@ pub fn key(id: u64, number: u8) -> u64
 pub fn position_of(table: &[u64], x: u64) -> usize
     ensures { result ≡ position (λ y. eqb y x) table.now }
 {
-    let mut i = 0;
-    while i < table.len() {
-        if table[i] == x {
-            return i;
-        }
-        i += 1;
-    }
-    i
+    table.iter().position(|y| *y == x).unwrap_or(table.len())
 }
 
 // The position of the register instance or node instance of a name among keys, or the number of keys.
+#[tactic(auto, unfolding(crate::specs::Faults::position_in))]
 pub fn name_position(keys: &[u64], id: u64, number: u8) -> usize
     ensures { result ≡ position_in keys.now id number }
 {
     position_of(keys, key(id, number))
 }
 
-// A number at a place of a table; a table without the place keeps what it has.
-pub fn put(table: &mut [u64], k: usize, x: u64)
+// An element at a place of a table; a table without the place keeps what it has.
+fn put_at<T: Copy>(table: &mut [T], k: usize, x: T)
     ensures { table.new ≡ set table.old k x }
 {
     if k < table.len() {
@@ -45,31 +40,30 @@ pub fn put(table: &mut [u64], k: usize, x: u64)
     }
 }
 
+// A number at a place of a table; a table without the place keeps what it has.
+pub fn put(table: &mut [u64], k: usize, x: u64)
+    ensures { table.new ≡ set table.old k x }
+{
+    put_at(table, k, x);
+}
+
 // The number at a position of a table; 0 where the table has no such position.
 pub fn entry(table: &[u64], k: usize) -> u64
     ensures { result ≡ get_or table.now k 0 }
 {
-    if k < table.len() {
-        return table[k];
-    }
-    0
+    table.get(k).copied().unwrap_or(0)
 }
 
 // A kind at a place of a table of kinds; a table without the place keeps what it has.
 pub fn put_kind(kinds: &mut [u8], k: usize, x: u8)
     ensures { kinds.new ≡ set kinds.old k x }
 {
-    if k < kinds.len() {
-        kinds[k] = x;
-    }
+    put_at(kinds, k, x);
 }
 
 // The kind at a position of a table of kinds; 0 where the table has no such position.
 pub fn kind_at(kinds: &[u8], k: usize) -> u64
     ensures { result ≡ get_or kinds.now k 0 }
 {
-    if k < kinds.len() {
-        return kinds[k] as u64;
-    }
-    0
+    u64::from(kinds.get(k).copied().unwrap_or(0))
 }

@@ -5,7 +5,7 @@ ghost use Rattle.format.specs.Lookup.{position};
 ghost use Rattle.tables.specs.Faults.{position_in};
 ghost use Rattle.tables.specs.Indexed.{start_of, FreeFrom, Indexed, IndexOf};
 
-use crate::{key, position_of};
+use crate::{key, position_of, put_at};
 
 // The places of an index over as many register instances, and over as many node instances, as a file may have: twice that, and 32 more.
 pub const REGISTER_PLACES: usize = limits::REGISTER_INSTANCES * 2 + 32;
@@ -13,31 +13,28 @@ pub const REGISTER_PLACES: usize = limits::REGISTER_INSTANCES * 2 + 32;
 pub const NODE_PLACES: usize = limits::NODE_INSTANCES * 2 + 32;
 
 // The place of an index of so many places at which the search for a number begins.
+#[tactic(auto, unfolding(crate::specs::Indexed::start_of))]
 fn start_of(places: usize, x: u64) -> usize
     ensures { result ≡ start_of places x }
 {
     if places < 33 {
-        return 0;
+        0
+    } else {
+        (x % 0x100000000 * 0x9E3779B1 / 0x10000) as usize & (places - 33)
     }
-    (x % 0x100000000 * 0x9E3779B1 / 0x10000) as usize & (places - 33)
 }
 
 // The first place from one on that holds no position before p; where there is none, the number of places. It looks at each place once, up to that one.
 fn free_from(index: &[u16], from: usize, p: usize) -> usize
     ensures { FreeFrom index.now from p result }
 {
-    let mut at = from;
-    while at < index.len() {
+    for at in from..index.len() {
         let h = index[at] as usize;
-        if h == 0 {
+        if h == 0 || p < h {
             return at;
         }
-        if p < h {
-            return at;
-        }
-        at += 1;
     }
-    at
+    from.max(index.len())
 }
 
 // Enters the number x, which a table has at position p, after all before it.
@@ -49,9 +46,7 @@ fn enter(index: &mut [u16], x: u64, p: usize)
         → Indexed index.new table (suc p) }
 {
     let at = free_from(index, start_of(index.len(), x), p);
-    if at < index.len() {
-        index[at] = (p % 0xFFFF + 1) as u16;
-    }
+    put_at(index, at, (p % 0xFFFF + 1) as u16);
 }
 
 // Enters the numbers of a table from position `from` on, after those before it. It looks at each of them once.
@@ -60,10 +55,8 @@ pub fn enter_from(table: &[u64], index: &mut [u16], from: usize)
         → Indexed index.old table.now from
         → IndexOf index.new table.now }
 {
-    let mut i = from;
-    while i < table.len() {
+    for i in from..table.len() {
         enter(index, table[i], i);
-        i += 1;
     }
 }
 
@@ -80,24 +73,20 @@ pub fn find(index: &[u16], table: &[u64], x: u64) -> usize
     ensures { IndexOf index.now table.now
         → result ≡ position (λ y. eqb y x) table.now }
 {
-    let mut at = start_of(index.len(), x);
-    while at < index.len() {
+    for at in start_of(index.len(), x)..index.len() {
         let h = index[at] as usize;
-        if h == 0 {
-            return table.len();
-        }
-        if table.len() < h {
+        if h == 0 || table.len() < h {
             return table.len();
         }
         if table[h - 1] == x {
             return h - 1;
         }
-        at += 1;
     }
     position_of(table, x)
 }
 
 // The position of the register instance or node instance of a name among keys that an index is over, or the number of keys.
+#[tactic(auto, unfolding(crate::specs::Faults::position_in))]
 pub fn find_name(index: &[u16], keys: &[u64], id: u64, number: u8) -> usize
     ensures { IndexOf index.now keys.now
         → result ≡ position_in keys.now id number }

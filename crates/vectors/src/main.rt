@@ -4,79 +4,77 @@
 ghost use Rattle.std.specs.Prelude.{◌≡◌, length};
 ghost use Rattle.std.specs.Io.{ReadsAtMost};
 
-use crate::case::case_met;
-use crate::lines::malformed;
-use crate::parts::{four, part};
-use crate::tally::{PLACES, print_tally};
-use check::same;
+use crate::case::Case;
+use crate::faults::{Malformed, Stop};
+use crate::head::four;
+use crate::tally::Tally;
 use std::io::Read;
 use std::{fs, io};
 
-mod answers;
-mod boards;
+mod calls;
 mod case;
-mod lent;
-mod lines;
-mod outputs;
-mod parts;
+mod faults;
+mod head;
 mod tally;
 
 // A file of vectors has at most so many bytes.
 const MOST_BYTES: usize = 1_700_000;
 
-// Goes through the cases, and answers the place after the last; 0 where some bytes are no case.
-fn walked(
-    rt: &impl Print,
-    data: &[u8],
-    files: &[u8],
-    cases: usize,
-    tally: &mut [u64],
-) -> io::Result<usize> {
-    let mut at = files.len();
-    for number in 1..=cases {
-        at = case_met(rt, data, files, at, number, tally)?;
-        if at == 0 {
-            break;
+// What it begins with: its keyword, the place of the first case and the number of cases.
+const START: usize = 16;
+
+// The cases of a file, of which `files` is what stands before them: each that differs is named.
+fn walk(rt: &impl Print, files: &[u8], cases: &[u8], count: u32) -> Result<Tally, Stop> {
+    let mut tally = Tally::new();
+    let mut rest = cases;
+    for number in 1..=count {
+        let (case, others) = match Case::first(rest, files) {
+            Ok(found) => found,
+            Err(why) => return Err(Stop::Malformed(Malformed::Case(number, why))),
+        };
+        if !case.is_met(&mut tally) {
+            println!(rt; "case {number} differs")?;
+            tally.count_difference();
         }
+        rest = others;
     }
-    Ok(at)
+    if !rest.is_empty() {
+        return Err(Stop::Malformed(Malformed::BytesAfter));
+    }
+    Ok(tally)
 }
 
-// The cases of a file that begins as it has to. `files` is what stands before them.
-fn compare(rt: &impl Print, data: &[u8], files: &[u8], cases: usize) -> io::Result<()> {
-    let mut tally = [0u64; PLACES];
-    let end = walked(rt, data, files, cases, &mut tally)?;
-    if end == 0 {
-        return Ok(());
-    }
-    if end != data.len() {
-        return malformed(rt, "bytes after the last case");
-    }
-    print_tally(rt, &tally)
-}
-
-// The file's start: its keyword, the place of the first case and the number of cases.
-fn examine(rt: &impl Print, data: &[u8]) -> io::Result<()> {
+// What stands before the first case, the cases, and how many of them there are to be.
+fn opened(data: &[u8]) -> Result<(&[u8], &[u8], u32), Malformed> {
     if MOST_BYTES < data.len() {
-        return malformed(rt, "too long");
+        return Err(Malformed::TooLong);
     }
-    if data.len() < 16 {
-        return malformed(rt, "too short");
+    let Some(start) = data.first_chunk::<START>() else {
+        return Err(Malformed::TooShort);
+    };
+    if !start.starts_with(b"LUTEVECT") {
+        return Err(Malformed::WrongKeyword);
     }
-    if !same(part(data, 0, 8), b"LUTEVECT") {
-        return malformed(rt, "wrong keyword");
+    let first = four(start, 8) as usize;
+    if first < START {
+        return Err(Malformed::FirstInStart);
     }
-    let first = four(data, 8);
-    if first < 16 {
-        return malformed(rt, "the first case stands in the start");
-    }
-    if data.len() < first {
-        return malformed(rt, "the first case stands beyond the end");
-    }
-    compare(rt, data, part(data, 0, first), four(data, 12))
+    let Some((files, cases)) = data.split_at_checked(first) else {
+        return Err(Malformed::FirstBeyondEnd);
+    };
+    Ok((files, cases, four(start, 12)))
+}
+
+// Goes through a file.
+fn examine(rt: &impl Print, data: &[u8]) -> Result<(), Stop> {
+    let (files, cases, count) = opened(data)?;
+    let tally = walk(rt, files, cases, count)?;
+    tally.print(rt)?;
+    Ok(())
 }
 
 // Reads until the buffer is full or the input ends, and answers how many bytes stand at the buffer's front.
+// Kept: the station's job has the same, and a crate of their own for one function would be no plainer.
 fn read_full<R: Read>(input: &mut R, bytes: &mut [u8]) -> io::Result<usize>
     ensures { ReadsAtMost result bytes.new }
 {
@@ -92,9 +90,9 @@ fn read_full<R: Read>(input: &mut R, bytes: &mut [u8]) -> io::Result<usize>
 }
 
 // Reads the file into a lent buffer, and goes through it.
-fn read_and_examine<R: Read>(rt: &impl Print, file: &mut R, data: &mut [u8]) -> io::Result<()> {
+fn read_and_examine<R: Read>(rt: &impl Print, file: &mut R, data: &mut [u8]) -> Result<(), Stop> {
     let n = read_full(file, data)?;
-    examine(rt, part(data, 0, n))
+    examine(rt, &data[..n])
 }
 
 // Room for one byte more than a file of vectors may have.
@@ -106,8 +104,13 @@ fn room() -> [u8; 1_700_001]
 
 fn main(rt: HostRuntime) -> io::Result<()> {
     let Ok(mut file) = fs::open(&rt, "vectors.bin") else {
-        return malformed(&rt, "it cannot be opened");
+        let why = Malformed::Unopened;
+        return println!(rt; "{why}");
     };
     let mut data = room();
-    read_and_examine(&rt, &mut file, &mut data)
+    match read_and_examine(&rt, &mut file, &mut data) {
+        Ok(()) => Ok(()),
+        Err(Stop::Malformed(why)) => println!(rt; "{why}"),
+        Err(Stop::Io(e)) => Err(e),
+    }
 }

@@ -4,7 +4,7 @@ use mathlib.Core.Bool.{Bool, true, false, cond, ◌&&◌}
 use mathlib.Core.List.{List}
 use mathlib.Core.Logic.{⊎_elim}
 use mathlib.Core.Option.{Option, none, some}
-use Prim.Native.Nat.{ℕ, ◌+◌, ◌*◌, ◌≤◌, ◌<◌}
+use Prim.Native.Nat.{ℕ, ◌+◌, ◌*◌, ◌≤◌, ◌<◌, min}
 use native.Mathlib.Omega.{arith}
 use lib.Dec.{ltb}
 use lib.ListN.{length, get_or}
@@ -26,13 +26,13 @@ pub child_beyond : (n : ℕ) (ch : List ℕ) (k : ℕ) → length ch ≤ k → n
 unfolding child_at
 child_beyond n ch k h = simp (le-ltb _ _ h)
 
-pub child_none : (n : ℕ) (ch : List ℕ) (k : ℕ) → k < length ch → n ≤ get_or ch k 0 → n ≡ or_else n (child_at n ch k)
+pub child_least : (n : ℕ) (ch : List ℕ) (k : ℕ) → k < length ch → min n (get_or ch k 0) ≡ or_else n (child_at n ch k)
 unfolding child_at
-child_none n ch k h l = simp (lt-ltb _ _ h, le-ltb _ _ l)
-
-pub child_there : (n : ℕ) (ch : List ℕ) (k : ℕ) → k < length ch → get_or ch k 0 < n → get_or ch k 0 ≡ or_else n (child_at n ch k)
-unfolding child_at
-child_there n ch k h l = simp (lt-ltb _ _ h, lt-ltb _ _ l)
+child_least n ch k h = go (ltb (get_or ch k 0) n) refl
+  where
+    go : (t : Bool) → ltb (get_or ch k 0) n ≡ t → min n (get_or ch k 0) ≡ or_else n (cond (ltb k (length ch) && ltb (get_or ch k 0) n) (some (get_or ch k 0)) none)
+    go true e = simp (lt-ltb _ _ h, e) (omega (arith, ltb-true _ _ e))
+    go false e = simp (lt-ltb _ _ h, e) (omega (arith, ltb-false _ _ e))
 
 pub child-in : (n : ℕ) (ch : List ℕ) (k c : ℕ) → child_at n ch k ≡ some c → c < n
 unfolding child_at

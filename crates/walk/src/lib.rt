@@ -1,7 +1,7 @@
 // The walk over a graph of node instances that two lent tables give: a word of active bits for each instance, and 64 places for the children of each.
-#![tactic(auto)]
+#![tactic(auto, unfolding(crate::specs::TableGraph::table_size))]
 
-ghost use Rattle.std.specs.Prelude.{◌≡◌, List, ℕ, ◌*◌, ◌≤◌, ◌<◌, ltb, length};
+ghost use Rattle.std.specs.Prelude.{◌≡◌, List, ℕ, ◌+◌, ◌*◌, ◌≤◌, ◌<◌, ltb, length};
 ghost use Rattle.walk.specs.TableGraph.{table_size, child_at, table_graph};
 ghost use Rattle.walk.specs.Marks.{mark_count, first_waiting, waiting_words, state_of, step_walk, started, finished};
 ghost use Rattle.walk.specs.Steps.{StepCount};
@@ -28,12 +28,7 @@ pub struct Walked {
 pub fn size(active: &[u64]) -> usize
     ensures { result ≡ table_size active.now }
 {
-    let n = active.len();
-    if n < limits::NODE_INSTANCES {
-        n
-    } else {
-        limits::NODE_INSTANCES
-    }
+    active.len().min(limits::NODE_INSTANCES)
 }
 
 // The first waiting instance, or the number of marks. It looks at each word once, up to the first that has a bit.
@@ -41,29 +36,52 @@ fn first_waiting(words: &[u64]) -> usize
     requires { length words.now ≤ 65536 }
     ensures { (m : List ℕ) → length m ≡ length words.now * 64 → words.now ≡ waiting_words m → result ≡ first_waiting m }
 {
-    let mut j = 0;
-    while j < words.len() {
-        let x = words[j];
-        if x != 0 {
-            return j * 64 + numbers::next_bit(x) as usize;
+    for (j, word) in words.iter().enumerate() {
+        if *word != 0 {
+            return j * 64 + numbers::next_bit(*word) as usize;
         }
-        j += 1;
     }
-    j * 64
+    words.len() * 64
 }
 
 // The child at a place of the table, or n where there is none.
+#[tactic(auto, using(crate::proofs::Tables::child_least, crate::proofs::Tables::child_beyond))]
 pub fn child_at(n: usize, child: &[u16], k: usize) -> usize
     ensures { result ≡ or_else n (child_at n child.now k) }
 {
-    if child.len() <= k {
-        return n;
+    if k < child.len() {
+        n.min(child[k] as usize)
+    } else {
+        n
     }
-    let c = child[k] as usize;
-    if n <= c {
-        return n;
+}
+
+// The graph that two lent tables give, with how many of its node instances the walk knows.
+#[derive(Clone, Copy)]
+pub struct TableGraph<'a> {
+    pub active: &'a [u64],
+    pub children: &'a [u16],
+    pub size: usize,
+    ghost known: { size ≡ table_size active.now },
+}
+
+impl<'a> TableGraph<'a> {
+    pub fn new(active: &'a [u64], children: &'a [u16]) -> TableGraph<'a>
+        ensures { (result.active.now ≡ active.now) × (result.children.now ≡ children.now) }
+    {
+        TableGraph {
+            active,
+            children,
+            size: size(active),
+        }
     }
-    c
+
+    // The child of the bit b of the instance i stands at the place k of i * 64 + b; or the graph's size where there is none.
+    pub fn child(&self, k: usize) -> usize
+        ensures { result ≡ or_else self.now.size (child_at self.now.size self.now.children.now k) }
+    {
+        child_at(self.size, self.children, k)
+    }
 }
 
 // The child at a place of the table, if there is one and it is untouched, waits: its mark and its bit say so.

@@ -9,7 +9,7 @@ use lib.ListN.{length, take}
 use borrow.Author.Tests.{le-leb, lt-leb, leb-true, leb-false, eqb-true, eqb-false, not-true, not-false}
 use Rattle.numbers.proofs.Bools.{clash}
 use Rattle.limits.specs.Limits.{Limits}
-use Rattle.format.specs.declared.Checked.{Checked}
+use Rattle.std.specs.Prelude.{Result, Ok, Err}
 use Rattle.format.specs.declared.Refusal.{Refusal}
 use Rattle.format.specs.declared.Summary.{Summary}
 use Rattle.format.specs.Refusals.{number_of, checked_values}
@@ -20,7 +20,6 @@ use Rattle.format.proofs.NumberedLaws.{kind_some, verdict_numbered}
 use Rattle.records.specs.Record.{records_in, at_front}
 use Rattle.packing.specs.Packing.{file_of}
 use Rattle.packing.specs.Writing.{packed_in}
-use Rattle.writer.specs.declared.Output.{Output}
 use Rattle.writer.specs.Writing.{Answer, refused_answer, in_output, answer_of}
 use Rattle.writer.proofs.AnswerLaws.{accepted_verdict}
 use Rattle.writer.proofs.OutputLaws.{front_length, front_taken}
@@ -28,7 +27,7 @@ use Rattle.writer.specs.Building.{checked_file, built_in, is_exact}
 
 -- The checker's answer is that of the verdict.
 
-refused_of : (p : Parsed Chip) (r : Refusal) → checked_values (Checked.Refused r) ≡ check_of p → p ≡ refused (number_of r.kind) r.place
+refused_of : (p : Parsed Chip) (r : Refusal) → checked_values (Err r) ≡ check_of p → p ≡ refused (number_of r.kind) r.place
 unfolding check_of
 refused_of (done c end) r e = absurd (omega (arith, kind_some r.kind, ap (λ x. x.number) e))
 refused_of (refused n q) r e =
@@ -36,27 +35,25 @@ refused_of (refused n q) r e =
     let b : r.place ≡ q = ap (λ x. x.place) e in
     rw (a, b)
 
-pub check_refused : (limits : Limits) (s : List ℕ) (r : Refusal) → checked_values (Checked.Refused r) ≡ check limits s
+pub check_refused : (limits : Limits) (s : List ℕ) (r : Refusal) → checked_values (Err r) ≡ check limits s
     → verdict limits s ≡ refused (number_of r.kind) r.place
 unfolding check
 check_refused limits s r e = refused_of (verdict limits s) r e
 
-pub check_accepted : (limits : Limits) (s : List ℕ) (y : Summary) → checked_values (Checked.Accepted y) ≡ check limits s
+pub check_accepted : (limits : Limits) (s : List ℕ) (y : Summary) → checked_values (Ok y) ≡ check limits s
     → (c : Chip) × (end : ℕ) × (verdict limits s ≡ done c end)
 check_accepted limits s y e = accepted_verdict limits s (sym (ap (λ x. x.number) e))
 
 -- A file in a buffer
 
 module _ (limits : Limits) (file out : List ℕ) where
-  pub file_refused : {x : Checked} {r : Refusal} → x ≡ Checked.Refused r → checked_values x ≡ check limits file
-      → refused_answer (number_of r.kind) r.place out ≡ in_output out (checked_file limits file)
+  pub file_refused : (r : Refusal) → checked_values (Err r) ≡ check limits file → refused_answer (number_of r.kind) r.place out ≡ in_output out (checked_file limits file)
   unfolding checked_file in_output making
-  file_refused {x} {r} d e = rw (check_refused limits file r (ap checked_values (sym d) ∙ e))
+  file_refused r e = rw (check_refused limits file r e)
 
-  pub file_accepted : {x : Checked} {y : Summary} {a : Answer} → x ≡ Checked.Accepted y → checked_values x ≡ check limits file → a ≡ in_output out (done file 0)
-      → a ≡ in_output out (checked_file limits file)
+  pub file_accepted : {y : Summary} {a : Answer} → checked_values (Ok y) ≡ check limits file → a ≡ in_output out (done file 0) → a ≡ in_output out (checked_file limits file)
   unfolding checked_file in_output making
-  file_accepted {x} {y} d e h = rw (check_accepted limits file y (ap checked_values (sym d) ∙ e)).2 h
+  file_accepted {y} e h = rw (check_accepted limits file y e).2 h
 
   pub built : (room : ℕ) {a : Answer} → length file ≤ room → a ≡ in_output out (checked_file limits file) → a ≡ built_in limits room file out
   unfolding built_in
@@ -119,27 +116,27 @@ module _ (limits : Limits) (room : ℕ) (file out : List ℕ) where
 
 -- Whether an answer is exact, and what it then is.
 
-written_exact : (n : ℕ) → true ≡ is_exact (Output.Written n)
+written_exact : (n : ℕ) → true ≡ is_exact (Ok n)
 unfolding is_exact
 written_exact n = refl
 
-refused_exact : (r : Refusal) → not (eqb (number_of r.kind) 43) ≡ is_exact (Output.Refused r)
+refused_exact : (r : Refusal) → not (eqb (number_of r.kind) 43) ≡ is_exact (Err r)
 unfolding is_exact
 refused_exact r = refl
 
-output_of : (r : Output) (o : List ℕ) → o ≡ (answer_of r o).output
-output_of (Output.Written n) o = refl
-output_of (Output.Refused r) o = refl
+output_of : (r : Result ℕ Refusal) (o : List ℕ) → o ≡ (answer_of r o).output
+output_of (Ok n) o = refl
+output_of (Err r) o = refl
 
-exact_number : (r : Output) (o : List ℕ) → is_exact r ≡ false → (answer_of r o).number ≡ 43
-exact_number (Output.Written n) o e = clash refl (written_exact n ∙ e)
-exact_number (Output.Refused r) o e = eqb-true (number_of r.kind) 43 (not-false _ (refused_exact r ∙ e))
+exact_number : (r : Result ℕ Refusal) (o : List ℕ) → is_exact r ≡ false → (answer_of r o).number ≡ 43
+exact_number (Ok n) o e = clash refl (written_exact n ∙ e)
+exact_number (Err r) o e = eqb-true (number_of r.kind) 43 (not-false _ (refused_exact r ∙ e))
 
-exact-not : (r : Output) (o : List ℕ) → is_exact r ≡ true → (answer_of r o).number ≡ 43 → ⊥
-exact-not (Output.Written n) o e h = absurd (omega (arith, h))
-exact-not (Output.Refused r) o e h = eqb-false (number_of r.kind) 43 (not-true _ (refused_exact r ∙ e)) h
+exact-not : (r : Result ℕ Refusal) (o : List ℕ) → is_exact r ≡ true → (answer_of r o).number ≡ 43 → ⊥
+exact-not (Ok n) o e h = absurd (omega (arith, h))
+exact-not (Err r) o e h = eqb-false (number_of r.kind) 43 (not-true _ (refused_exact r ∙ e)) h
 
-module _ (limits : Limits) (room most : ℕ) (file out : List ℕ) (r : Output) (o : List ℕ) (told : answer_of r o ≡ built_in limits room file out) where
+module _ (limits : Limits) (room most : ℕ) (file out : List ℕ) (r : Result ℕ Refusal) (o : List ℕ) (told : answer_of r o ≡ built_in limits room file out) where
   pub class_exact : room ≤ most → is_exact r ≡ true → answer_of r o ≡ built_in limits most file out
   class_exact l e = go (leb (length file) room) refl
     where
@@ -181,7 +178,7 @@ module _ (limits : Limits) (file out : List ℕ) where
           room false l = absurd (omega (arith, h, ap (λ x. x.number) (file_done e), short_number end l))
       go (refused n q) e = absurd (omega (arith, h, file_number e, (verdict_numbered limits file e).1))
 
-module _ (limits : Limits) (room : ℕ) (file out : List ℕ) (r : Output) (o : List ℕ) (told : answer_of r o ≡ built_in limits room file out) where
+module _ (limits : Limits) (room : ℕ) (file out : List ℕ) (r : Result ℕ Refusal) (o : List ℕ) (told : answer_of r o ≡ built_in limits room file out) where
   pub exact_answer : is_exact r ≡ true → answer_of r o ≡ in_output out (checked_file limits file)
   exact_answer e = go (leb (length file) room) refl
     where

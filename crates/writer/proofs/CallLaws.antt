@@ -9,7 +9,7 @@ use borrow.Author.Tests.{le-leb, lt-leb}
 use Rattle.limits.specs.Limits.{Limits, library_limits}
 use Rattle.numbers.specs.BigEndian.{Bytes}
 use Rattle.format.specs.Refusals.{number_of, checked_values}
-use Rattle.format.specs.declared.Checked.{Checked}
+use Rattle.std.specs.Prelude.{Result, Ok, Err}
 use Rattle.format.specs.declared.Summary.{Summary}
 use Rattle.format.specs.Tree.{Chip}
 use Rattle.format.specs.Verdict.{verdict, check}
@@ -18,7 +18,6 @@ use Rattle.format.specs.declared.Refusal.{Refusal}
 use Rattle.format.specs.Parsed.{Parsed, done, refused, and_then, making}
 use Rattle.format.proofs.ParsedLaws.{never}
 use Rattle.records.specs.declared.Before.{Before}
-use Rattle.records.specs.declared.grammar.Judged.{Judged}
 use Rattle.records.specs.Record.{records_in, at_front}
 use Rattle.records.specs.Elements.{elements, records}
 use Rattle.records.specs.Grammar.{grammar}
@@ -31,7 +30,6 @@ use Rattle.unpacking.specs.Unpacking.{unpacked_within, unpacked_bytes}
 use Rattle.unpacking.proofs.UnpackingLaws.{unpacked_tree}
 use Rattle.packing.specs.Packing.{file_of}
 use Rattle.packing.proofs.PackingLaws.{packed_file}
-use Rattle.writer.specs.declared.Output.{Output}
 use Rattle.writer.specs.Writing.{answer_of, refused_answer, in_output, file_from, written, write, read}
 use Rattle.writer.specs.Building.{checked_file, built_in, is_exact}
 use Rattle.writer.proofs.OutputLaws.{front_length}
@@ -48,34 +46,34 @@ packed_from m h s e =
 
 -- What the grammar's view says of the grammar.
 
-grammar_refused : (s : List ℕ) (r : Refusal) (p : Parsed Before) → judged_parsed (Judged.Refused r) ≡ making (λ _. tt) p → p ≡ refused (number_of r.kind) r.place
+grammar_refused : (s : List ℕ) (r : Refusal) (p : Parsed Before) → judged_parsed (Err r) ≡ making (λ _. tt) p → p ≡ refused (number_of r.kind) r.place
 unfolding making
 grammar_refused s r (done b at) e = never e
 grammar_refused s r (refused n q) e = cc
 
-grammar_taken : (s : List ℕ) (end : ℕ) (p : Parsed Before) → judged_parsed (Judged.Taken end) ≡ making (λ _. tt) p → (b : Before) × (p ≡ done b end)
+grammar_taken : (s : List ℕ) (end : ℕ) (p : Parsed Before) → judged_parsed (Ok end) ≡ making (λ _. tt) p → (b : Before) × (p ≡ done b end)
 unfolding making
 grammar_taken s end (done b at) e = (b, cc)
 grammar_taken s end (refused n q) e = never (sym e)
 
-module _ (limits : Limits) (m : ℕ) (s out : List ℕ) {j : Judged} (told : judged_parsed j ≡ making (λ _. tt) (grammar s)) where
-  pub write_wrong : {r : Refusal} → j ≡ Judged.Refused r → refused_answer (number_of r.kind) r.place out ≡ write limits m s out
+module _ (limits : Limits) (m : ℕ) (s out : List ℕ) where
+  pub write_wrong : (r : Refusal) → judged_parsed (Err r) ≡ making (λ _. tt) (grammar s) → refused_answer (number_of r.kind) r.place out ≡ write limits m s out
   unfolding write written and_then in_output
-  write_wrong {r} d = rw (grammar_refused s r (grammar s) (ap judged_parsed (sym d) ∙ told))
+  write_wrong r told = rw (grammar_refused s r (grammar s) told)
 
-  write_taken : {end : ℕ} → j ≡ Judged.Taken end → m < 256 ^ 4 → in_output out (checked_file limits (file_of m (records_in s))) ≡ write limits m s out
-  unfolding write written and_then checked_file
-  write_taken {end} d h = let g = grammar_taken s end (grammar s) (ap judged_parsed (sym d) ∙ told) in rw (g.1, packed_from m h s g.1)
+  module _ {end : ℕ} (told : judged_parsed (Ok end) ≡ making (λ _. tt) (grammar s)) (model : m < 256 ^ 4) where
+    write_taken : in_output out (checked_file limits (file_of m (records_in s))) ≡ write limits m s out
+    unfolding write written and_then checked_file
+    write_taken = let g = grammar_taken s end (grammar s) told in rw (g.1, packed_from m model s g.1)
 
-  module _ {end : ℕ} (taken : j ≡ Judged.Taken end) (model : m < 256 ^ 4) (r : Output) (o : List ℕ)
-      (built : answer_of r o ≡ built_in limits limits.bytes (file_of m (records_in s)) out) where
-    pub write_exact : is_exact r ≡ true → answer_of r o ≡ write limits m s out
-    write_exact e = exact_answer limits limits.bytes (file_of m (records_in s)) out r o built e ∙ write_taken taken model
+    module _ (r : Result ℕ Refusal) (o : List ℕ) (built : answer_of r o ≡ built_in limits limits.bytes (file_of m (records_in s)) out) where
+      pub write_exact : is_exact r ≡ true → answer_of r o ≡ write limits m s out
+      write_exact e = exact_answer limits limits.bytes (file_of m (records_in s)) out r o built e ∙ write_taken
 
-    pub write_long : is_exact r ≡ false → refused_answer 1 0 o ≡ write limits m s out
-    write_long e =
-        ap (refused_answer 1 0) (class_kept limits limits.bytes 0 (file_of m (records_in s)) out r o built e)
-        ∙ (too_long limits (file_of m (records_in s)) out (inexact_large limits limits.bytes (file_of m (records_in s)) out r o built e) ∙ write_taken taken model)
+      pub write_long : is_exact r ≡ false → refused_answer 1 0 o ≡ write limits m s out
+      write_long e =
+          ap (refused_answer 1 0) (class_kept limits limits.bytes 0 (file_of m (records_in s)) out r o built e)
+          ∙ (too_long limits (file_of m (records_in s)) out (inexact_large limits limits.bytes (file_of m (records_in s)) out r o built e) ∙ write_taken)
 
 -- Reading
 
@@ -89,16 +87,15 @@ module _ (file : List ℕ) (bytes : Bytes file) (out : List ℕ) where
       let l = (verdict_out library_limits file e).short in
       rw (le-leb (length file) library_limits.bytes l, a.0, u)
 
-  pub read_refused : {x : Checked} {r : Refusal} → x ≡ Checked.Refused r → checked_values x ≡ check library_limits file
-      → refused_answer (number_of r.kind) r.place out ≡ read library_limits file out
+  pub read_refused : (r : Refusal) → checked_values (Err r) ≡ check library_limits file → refused_answer (number_of r.kind) r.place out ≡ read library_limits file out
   unfolding read making in_output
-  read_refused {x} {r} d e = rw (check_refused library_limits file r (ap checked_values (sym d) ∙ e))
+  read_refused r e = rw (check_refused library_limits file r e)
 
   read_done : {c : Chip} {end : ℕ} → verdict library_limits file ≡ done c end → in_output out (done (unpacked_bytes file) end) ≡ read library_limits file out
   unfolding read making
   read_done e = rw (unpacked_records e, e)
 
-  module _ (y : Summary) (told : checked_values (Checked.Accepted y) ≡ check library_limits file) {n : ℕ} {o : List ℕ} (needed : n ≡ length (unpacked_bytes file))
+  module _ (y : Summary) (told : checked_values (Ok y) ≡ check library_limits file) {n : ℕ} {o : List ℕ} (needed : n ≡ length (unpacked_bytes file))
       (put : o ≡ at_front (unpacked_bytes file) out) where
     kept : length o ≡ length out
     kept = ap length put ∙ front_length (unpacked_bytes file) out

@@ -1,6 +1,7 @@
 -- Document 02 (ii): "Write chip data files." What a writer and a reader of records answer.
-use Rattle.std.specs.Prelude.{ℕ, cond, List, ◌++◌, leb, length, drop}
+use Rattle.std.specs.Prelude.{ℕ, cond, List, ◌++◌, Result, Ok, Err, leb, length, drop}
 use Rattle.limits.specs.Limits.{Limits}
+use Rattle.format.specs.declared.Refusal.{Refusal}
 use Rattle.format.specs.Refusals.{number_of}
 use Rattle.format.specs.Parsed.{Parsed, done, refused, and_then, making}
 use Rattle.format.specs.Encoding.{encode}
@@ -9,7 +10,6 @@ use Rattle.records.specs.Record.{records_in}
 use Rattle.records.specs.Elements.{records}
 use Rattle.records.specs.Grammar.{grammar}
 use Rattle.records.specs.Planting.{tree_of}
-use Rattle.writer.specs.declared.Output.{Output}
 
 -- A whole answer: the number and place of a refusal, number 0 where there is none; how many bytes were written; and what the lent output then holds.
 pub record Answer : Type 0 where
@@ -46,7 +46,7 @@ write limits model s out = in_output out (written limits model s)
 unfoldable pub read : Limits → List ℕ → List ℕ → Answer
 read limits file out = in_output out (making records (verdict limits file))
 
--- The values of the code's answer, with what the output holds after the call.
-abbrev pub answer_of : Output → List ℕ → Answer
-answer_of (Output.Written n) out = record { number = 0; place = 0; length = n; output = out }
-answer_of (Output.Refused r) out = refused_answer (number_of r.kind) r.place out
+-- The values of the code's answer, how many bytes were written or a refusal, with what the output holds after the call.
+abbrev pub answer_of : Result ℕ Refusal → List ℕ → Answer
+answer_of (Ok n) out = record { number = 0; place = 0; length = n; output = out }
+answer_of (Err r) out = refused_answer (number_of r.kind) r.place out

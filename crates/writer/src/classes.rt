@@ -1,38 +1,36 @@
 // The buffers in which a file is built, by its size: a small file pays for a small one. The largest has room for every file of the library.
-ghost use Rattle.std.specs.Prelude.{◌≤◌, ◌≡◌, length};
-ghost use Rattle.limits.specs.Limits.{library_limits, program_limits};
+ghost use Rattle.std.specs.Prelude.{◌≤◌, ◌<◌, ◌^◌, ◌≡◌, length};
+ghost use Rattle.limits.specs.Limits.{library_limits};
 ghost use Rattle.records.specs.Record.{records_in};
 ghost use Rattle.packing.specs.Packing.{file_of};
 ghost use Rattle.writer.specs.Building.{built_in, is_exact};
 ghost use Rattle.writer.specs.Writing.{answer_of};
 
-use crate::{Output, put_checked};
+use crate::put_checked;
 use format::{Kind, Refusal, number};
 use limits::classes::{MIDDLE_BYTES, SMALL_BYTES};
 use limits::{BYTES, PROGRAM_BYTES};
 use packing::pack_file;
 
 // Whether an answer is not that the buffer was too short.
-pub fn is_exact(r: Output) -> bool
+#[tactic(auto, unfolding(crate::specs::Building::is_exact))]
+pub fn is_exact(r: Result<usize, Refusal>) -> bool
     ensures { result ≡ is_exact r }
 {
     match r {
-        Output::Written(_) => true,
-        Output::Refused(x) => {
-            let kind = x.kind;
-            number(kind) != 43
-        }
+        Ok(_) => true,
+        Err(x) => number(x.kind) != 43,
     }
 }
 
 // The file is built in a lent buffer, checked there, and put to the output. Where the buffer is too short, 43 at 0, and the output keeps its bytes.
-fn write_in(model: u32, records: &[u8], buffer: &mut [u8], out: &mut [u8]) -> Output
+fn write_in(model: u32, records: &[u8], buffer: &mut [u8], out: &mut [u8]) -> Result<usize, Refusal>
     ensures { answer_of result out.new
         ≡ built_in library_limits (length buffer.old) (file_of model (records_in records.now)) out.old }
 {
     let n = pack_file(model, records, buffer);
     if buffer.len() < n {
-        return Output::Refused(Refusal {
+        return Err(Refusal {
             kind: Kind::TableTooShort,
             place: 0,
         });
@@ -40,35 +38,12 @@ fn write_in(model: u32, records: &[u8], buffer: &mut [u8], out: &mut [u8]) -> Ou
     put_checked(&buffer[..n], out)
 }
 
-// With the small buffer.
-fn write_small(model: u32, records: &[u8], out: &mut [u8]) -> Output
-    ensures { answer_of result out.new ≡ built_in library_limits 256 (file_of model (records_in records.now)) out.old }
+// With a buffer of so many bytes.
+fn write_sized<const N: usize>(model: u32, records: &[u8], out: &mut [u8]) -> Result<usize, Refusal>
+    requires { N < 2 ^ 63 }
+    ensures { answer_of result out.new ≡ built_in library_limits N (file_of model (records_in records.now)) out.old }
 {
-    let mut buffer = [0u8; SMALL_BYTES];
-    write_in(model, records, &mut buffer, out)
-}
-
-// With the middle one.
-fn write_middle(model: u32, records: &[u8], out: &mut [u8]) -> Output
-    ensures { answer_of result out.new ≡ built_in library_limits 4096 (file_of model (records_in records.now)) out.old }
-{
-    let mut buffer = [0u8; MIDDLE_BYTES];
-    write_in(model, records, &mut buffer, out)
-}
-
-// With the large one, which has room for every file of the program.
-fn write_large(model: u32, records: &[u8], out: &mut [u8]) -> Output
-    ensures { answer_of result out.new ≡ built_in library_limits program_limits.bytes (file_of model (records_in records.now)) out.old }
-{
-    let mut buffer = [0u8; PROGRAM_BYTES];
-    write_in(model, records, &mut buffer, out)
-}
-
-// With the full one.
-fn write_full(model: u32, records: &[u8], out: &mut [u8]) -> Output
-    ensures { answer_of result out.new ≡ built_in library_limits library_limits.bytes (file_of model (records_in records.now)) out.old }
-{
-    let mut buffer = [0u8; BYTES];
+    let mut buffer = [0u8; N];
     write_in(model, records, &mut buffer, out)
 }
 
@@ -76,40 +51,34 @@ fn write_full(model: u32, records: &[u8], out: &mut [u8]) -> Output
 pub fn larger_buffers(bytes: usize) -> usize
     ensures { result ≤ 3 }
 {
-    if bytes / 4 + 64 <= SMALL_BYTES {
-        return 3;
+    let file = bytes / 4 + 64;
+    if file <= SMALL_BYTES {
+        3
+    } else if file <= MIDDLE_BYTES {
+        2
+    } else if file <= PROGRAM_BYTES {
+        1
+    } else {
+        0
     }
-    if bytes / 4 + 64 <= MIDDLE_BYTES {
-        return 2;
-    }
-    if bytes / 4 + 64 <= PROGRAM_BYTES {
-        return 1;
-    }
-    0
 }
 
 // With the buffer of a class, which so many are larger than; where it is too short, with the next larger.
-pub fn write_with(model: u32, records: &[u8], out: &mut [u8], larger: usize) -> Output
+// Kept: it calls itself with the next class, since a row of calls puts the buffers of all classes into one frame, and a small file would pay for them.
+pub fn write_with(
+    model: u32,
+    records: &[u8],
+    out: &mut [u8],
+    larger: usize,
+) -> Result<usize, Refusal>
     ensures { answer_of result out.new ≡ built_in library_limits library_limits.bytes (file_of model (records_in records.now)) out.old }
 {
-    if larger == 0 {
-        return write_full(model, records, out);
-    }
-    if larger == 1 {
-        let w = write_large(model, records, out);
-        if is_exact(w) {
-            return w;
-        }
-        return write_with(model, records, out, larger - 1);
-    }
-    if larger == 2 {
-        let w = write_middle(model, records, out);
-        if is_exact(w) {
-            return w;
-        }
-        return write_with(model, records, out, larger - 1);
-    }
-    let w = write_small(model, records, out);
+    let w = match larger {
+        0 => return write_sized::<BYTES>(model, records, out),
+        1 => write_sized::<PROGRAM_BYTES>(model, records, out),
+        2 => write_sized::<MIDDLE_BYTES>(model, records, out),
+        _ => write_sized::<SMALL_BYTES>(model, records, out),
+    };
     if is_exact(w) {
         return w;
     }

@@ -48,97 +48,97 @@ slice_bounds-find_slots-start t c = omega (arith, first_within c.args.file_lengt
 pub slice_bounds-find_slots-end : goal.slice_bounds-find_slots-end
 slice_bounds-find_slots-end t c = omega (arith, first_within c.args.file_lengths.now c.args.file_lengths.now c.args.files.now c.if-file_lengths-eq0.false refl c.requires.file_lengths_value.0)
 
-pub slice_bounds-find_slots-count-in-Rows : goal.slice_bounds-find_slots-count-in-Rows
-slice_bounds-find_slots-count-in-Rows t c = omega (arith, at_least_one c.args.file_lengths.now c.args.file_lengths.now c.if-file_lengths-eq0.false refl)
+pub slice_bounds-find_slots-count-in-Ok : goal.slice_bounds-find_slots-count-in-Ok
+slice_bounds-find_slots-count-in-Ok t c = omega (arith, at_least_one c.args.file_lengths.now c.args.file_lengths.now c.if-file_lengths-eq0.false refl)
 
-pub slice_bounds-find_slots-start-in-Rows : goal.slice_bounds-find_slots-start-in-Rows
-slice_bounds-find_slots-start-in-Rows t c = omega (arith, at_least_one c.args.file_lengths.now c.args.file_lengths.now c.if-file_lengths-eq0.false refl)
+pub slice_bounds-find_slots-start-in-Ok : goal.slice_bounds-find_slots-start-in-Ok
+slice_bounds-find_slots-start-in-Ok t c = omega (arith, at_least_one c.args.file_lengths.now c.args.file_lengths.now c.if-file_lengths-eq0.false refl)
 
-pub slice_bounds-find_slots-end-in-Rows : goal.slice_bounds-find_slots-end-in-Rows
-slice_bounds-find_slots-end-in-Rows t c = omega (arith, at_least_one c.args.file_lengths.now c.args.file_lengths.now c.if-file_lengths-eq0.false refl)
+pub slice_bounds-find_slots-end-in-Ok : goal.slice_bounds-find_slots-end-in-Ok
+slice_bounds-find_slots-end-in-Ok t c = omega (arith, at_least_one c.args.file_lengths.now c.args.file_lengths.now c.if-file_lengths-eq0.false refl)
 
 pub offset_bounds-words-b : goal.offset_bounds-words-b
 offset_bounds-words-b t c =
     let in_words_lem = first_within c.args.file_lengths.now c.args.word_lengths.now c.args.words.now c.if-file_lengths-eq0.false c.requires.word_lengths_len.0 c.requires.file_lengths_value.1 in
     omega (arith, in_words_lem, c.well_formed.1.1.1.0.1)
 
-pub slice_bounds-find_slots-count-in-Rows-2 : goal.slice_bounds-find_slots-count-in-Rows-2
-slice_bounds-find_slots-count-in-Rows-2 t c = omega (arith, first_within c.args.file_lengths.now c.args.word_lengths.now c.args.words.now c.if-file_lengths-eq0.false c.requires.word_lengths_len.0 c.requires.file_lengths_value.1)
+pub slice_bounds-find_slots-count-in-Ok-2 : goal.slice_bounds-find_slots-count-in-Ok-2
+slice_bounds-find_slots-count-in-Ok-2 t c = omega (arith, first_within c.args.file_lengths.now c.args.word_lengths.now c.args.words.now c.if-file_lengths-eq0.false c.requires.word_lengths_len.0 c.requires.file_lengths_value.1)
 
-pub slice_bounds-find_slots-start-in-Rows-2 : goal.slice_bounds-find_slots-start-in-Rows-2
-slice_bounds-find_slots-start-in-Rows-2 t c = omega (arith, first_within c.args.file_lengths.now c.args.word_lengths.now c.args.words.now c.if-file_lengths-eq0.false c.requires.word_lengths_len.0 c.requires.file_lengths_value.1)
+pub slice_bounds-find_slots-start-in-Ok-2 : goal.slice_bounds-find_slots-start-in-Ok-2
+slice_bounds-find_slots-start-in-Ok-2 t c = omega (arith, first_within c.args.file_lengths.now c.args.word_lengths.now c.args.words.now c.if-file_lengths-eq0.false c.requires.word_lengths_len.0 c.requires.file_lengths_value.1)
 
-pub slice_bounds-find_slots-end-in-Rows-2 : goal.slice_bounds-find_slots-end-in-Rows-2
-slice_bounds-find_slots-end-in-Rows-2 t c = omega (arith, first_within c.args.file_lengths.now c.args.word_lengths.now c.args.words.now c.if-file_lengths-eq0.false c.requires.word_lengths_len.0 c.requires.file_lengths_value.1)
+pub slice_bounds-find_slots-end-in-Ok-2 : goal.slice_bounds-find_slots-end-in-Ok-2
+slice_bounds-find_slots-end-in-Ok-2 t c = omega (arith, first_within c.args.file_lengths.now c.args.word_lengths.now c.args.words.now c.if-file_lengths-eq0.false c.requires.word_lengths_len.0 c.requires.file_lengths_value.1)
 
-pub slice_bounds-find_slots-count-in-Rows-3 : goal.slice_bounds-find_slots-count-in-Rows-3
-slice_bounds-find_slots-count-in-Rows-3 t c = omega (arith, at_least_one c.args.file_lengths.now c.args.word_lengths.now c.if-file_lengths-eq0.false c.requires.word_lengths_len.0)
+pub slice_bounds-find_slots-count-in-Ok-3 : goal.slice_bounds-find_slots-count-in-Ok-3
+slice_bounds-find_slots-count-in-Ok-3 t c = omega (arith, at_least_one c.args.file_lengths.now c.args.word_lengths.now c.if-file_lengths-eq0.false c.requires.word_lengths_len.0)
 
-pub slice_bounds-find_slots-start-in-Rows-3 : goal.slice_bounds-find_slots-start-in-Rows-3
-slice_bounds-find_slots-start-in-Rows-3 t c = omega (arith, at_least_one c.args.file_lengths.now c.args.word_lengths.now c.if-file_lengths-eq0.false c.requires.word_lengths_len.0)
+pub slice_bounds-find_slots-start-in-Ok-3 : goal.slice_bounds-find_slots-start-in-Ok-3
+slice_bounds-find_slots-start-in-Ok-3 t c = omega (arith, at_least_one c.args.file_lengths.now c.args.word_lengths.now c.if-file_lengths-eq0.false c.requires.word_lengths_len.0)
 
-pub slice_bounds-find_slots-end-in-Rows-3 : goal.slice_bounds-find_slots-end-in-Rows-3
-slice_bounds-find_slots-end-in-Rows-3 t c = omega (arith, at_least_one c.args.file_lengths.now c.args.word_lengths.now c.if-file_lengths-eq0.false c.requires.word_lengths_len.0)
+pub slice_bounds-find_slots-end-in-Ok-3 : goal.slice_bounds-find_slots-end-in-Ok-3
+slice_bounds-find_slots-end-in-Ok-3 t c = omega (arith, at_least_one c.args.file_lengths.now c.args.word_lengths.now c.if-file_lengths-eq0.false c.requires.word_lengths_len.0)
 
-pub slice_bounds-find_slots-count-in-Rows-4 : goal.slice_bounds-find_slots-count-in-Rows-4
-slice_bounds-find_slots-count-in-Rows-4 t c = omega (arith, first_within c.args.file_lengths.now c.args.read_lengths.now c.args.read.now c.if-file_lengths-eq0.false c.requires.word_lengths_len.1 c.requires.file_lengths_value.2)
+pub slice_bounds-find_slots-count-in-Ok-4 : goal.slice_bounds-find_slots-count-in-Ok-4
+slice_bounds-find_slots-count-in-Ok-4 t c = omega (arith, first_within c.args.file_lengths.now c.args.read_lengths.now c.args.read.now c.if-file_lengths-eq0.false c.requires.word_lengths_len.1 c.requires.file_lengths_value.2)
 
-pub slice_bounds-find_slots-start-in-Rows-4 : goal.slice_bounds-find_slots-start-in-Rows-4
-slice_bounds-find_slots-start-in-Rows-4 t c = omega (arith, first_within c.args.file_lengths.now c.args.read_lengths.now c.args.read.now c.if-file_lengths-eq0.false c.requires.word_lengths_len.1 c.requires.file_lengths_value.2)
+pub slice_bounds-find_slots-start-in-Ok-4 : goal.slice_bounds-find_slots-start-in-Ok-4
+slice_bounds-find_slots-start-in-Ok-4 t c = omega (arith, first_within c.args.file_lengths.now c.args.read_lengths.now c.args.read.now c.if-file_lengths-eq0.false c.requires.word_lengths_len.1 c.requires.file_lengths_value.2)
 
-pub slice_bounds-find_slots-end-in-Rows-4 : goal.slice_bounds-find_slots-end-in-Rows-4
-slice_bounds-find_slots-end-in-Rows-4 t c = omega (arith, first_within c.args.file_lengths.now c.args.read_lengths.now c.args.read.now c.if-file_lengths-eq0.false c.requires.word_lengths_len.1 c.requires.file_lengths_value.2)
+pub slice_bounds-find_slots-end-in-Ok-4 : goal.slice_bounds-find_slots-end-in-Ok-4
+slice_bounds-find_slots-end-in-Ok-4 t c = omega (arith, first_within c.args.file_lengths.now c.args.read_lengths.now c.args.read.now c.if-file_lengths-eq0.false c.requires.word_lengths_len.1 c.requires.file_lengths_value.2)
 
-pub slice_bounds-find_slots-count-in-Rows-5 : goal.slice_bounds-find_slots-count-in-Rows-5
-slice_bounds-find_slots-count-in-Rows-5 t c = omega (arith, at_least_one c.args.file_lengths.now c.args.read_lengths.now c.if-file_lengths-eq0.false c.requires.word_lengths_len.1)
+pub slice_bounds-find_slots-count-in-Ok-5 : goal.slice_bounds-find_slots-count-in-Ok-5
+slice_bounds-find_slots-count-in-Ok-5 t c = omega (arith, at_least_one c.args.file_lengths.now c.args.read_lengths.now c.if-file_lengths-eq0.false c.requires.word_lengths_len.1)
 
-pub slice_bounds-find_slots-start-in-Rows-5 : goal.slice_bounds-find_slots-start-in-Rows-5
-slice_bounds-find_slots-start-in-Rows-5 t c = omega (arith, at_least_one c.args.file_lengths.now c.args.read_lengths.now c.if-file_lengths-eq0.false c.requires.word_lengths_len.1)
+pub slice_bounds-find_slots-start-in-Ok-5 : goal.slice_bounds-find_slots-start-in-Ok-5
+slice_bounds-find_slots-start-in-Ok-5 t c = omega (arith, at_least_one c.args.file_lengths.now c.args.read_lengths.now c.if-file_lengths-eq0.false c.requires.word_lengths_len.1)
 
-pub slice_bounds-find_slots-end-in-Rows-5 : goal.slice_bounds-find_slots-end-in-Rows-5
-slice_bounds-find_slots-end-in-Rows-5 t c = omega (arith, at_least_one c.args.file_lengths.now c.args.read_lengths.now c.if-file_lengths-eq0.false c.requires.word_lengths_len.1)
+pub slice_bounds-find_slots-end-in-Ok-5 : goal.slice_bounds-find_slots-end-in-Ok-5
+slice_bounds-find_slots-end-in-Ok-5 t c = omega (arith, at_least_one c.args.file_lengths.now c.args.read_lengths.now c.if-file_lengths-eq0.false c.requires.word_lengths_len.1)
 
 pub overflow_add-slot : goal.overflow_add-slot
 overflow_add-slot t c = omega (arith, at_least_one c.args.file_lengths.now c.args.file_lengths.now c.if-file_lengths-eq0.false refl, c.requires.word_lengths_len.2, most_slots)
 
 pub offset_bounds-heads-n : goal.offset_bounds-heads-n
 offset_bounds-heads-n t c =
-    let w = within_rows c.args.heads.now c.args.rows.now c.in-Rows.is c.find-s.ensures.within in
+    let w = within_rows c.args.heads.now c.args.rows.now c.in-Ok.is c.find-s.ensures.within in
     omega (arith, w.0)
 
-pub slice_bounds-find_slots-count-in-Rows-6 : goal.slice_bounds-find_slots-count-in-Rows-6
-slice_bounds-find_slots-count-in-Rows-6 t c =
-    let w = within_rows c.args.heads.now c.args.rows.now c.in-Rows.is c.find-s.ensures.within in
+pub slice_bounds-find_slots-count-in-Ok-6 : goal.slice_bounds-find_slots-count-in-Ok-6
+slice_bounds-find_slots-count-in-Ok-6 t c =
+    let w = within_rows c.args.heads.now c.args.rows.now c.in-Ok.is c.find-s.ensures.within in
     omega (arith, w.1, c.heads-1.given)
 
-pub slice_bounds-find_slots-start-in-Rows-6 : goal.slice_bounds-find_slots-start-in-Rows-6
-slice_bounds-find_slots-start-in-Rows-6 t c =
-    let w = within_rows c.args.heads.now c.args.rows.now c.in-Rows.is c.find-s.ensures.within in
+pub slice_bounds-find_slots-start-in-Ok-6 : goal.slice_bounds-find_slots-start-in-Ok-6
+slice_bounds-find_slots-start-in-Ok-6 t c =
+    let w = within_rows c.args.heads.now c.args.rows.now c.in-Ok.is c.find-s.ensures.within in
     omega (arith, w.1, c.heads-1.given)
 
-pub slice_bounds-find_slots-end-in-Rows-6 : goal.slice_bounds-find_slots-end-in-Rows-6
-slice_bounds-find_slots-end-in-Rows-6 t c =
-    let w = within_rows c.args.heads.now c.args.rows.now c.in-Rows.is c.find-s.ensures.within in
+pub slice_bounds-find_slots-end-in-Ok-6 : goal.slice_bounds-find_slots-end-in-Ok-6
+slice_bounds-find_slots-end-in-Ok-6 t c =
+    let w = within_rows c.args.heads.now c.args.rows.now c.in-Ok.is c.find-s.ensures.within in
     omega (arith, w.1, c.heads-1.given)
 
 pub offset_bounds-rows-n : goal.offset_bounds-rows-n
 offset_bounds-rows-n t c =
-    let w = within_rows c.args.heads.now c.args.rows.now c.in-Rows.is c.find-s.ensures.within in
+    let w = within_rows c.args.heads.now c.args.rows.now c.in-Ok.is c.find-s.ensures.within in
     omega (arith, w.0)
 
-pub slice_bounds-find_slots-count-in-Rows-7 : goal.slice_bounds-find_slots-count-in-Rows-7
-slice_bounds-find_slots-count-in-Rows-7 t c =
-    let w = within_rows c.args.heads.now c.args.rows.now c.in-Rows.is c.find-s.ensures.within in
+pub slice_bounds-find_slots-count-in-Ok-7 : goal.slice_bounds-find_slots-count-in-Ok-7
+slice_bounds-find_slots-count-in-Ok-7 t c =
+    let w = within_rows c.args.heads.now c.args.rows.now c.in-Ok.is c.find-s.ensures.within in
     omega (arith, w.2, c.rows-1.given)
 
-pub slice_bounds-find_slots-start-in-Rows-7 : goal.slice_bounds-find_slots-start-in-Rows-7
-slice_bounds-find_slots-start-in-Rows-7 t c =
-    let w = within_rows c.args.heads.now c.args.rows.now c.in-Rows.is c.find-s.ensures.within in
+pub slice_bounds-find_slots-start-in-Ok-7 : goal.slice_bounds-find_slots-start-in-Ok-7
+slice_bounds-find_slots-start-in-Ok-7 t c =
+    let w = within_rows c.args.heads.now c.args.rows.now c.in-Ok.is c.find-s.ensures.within in
     omega (arith, w.2, c.rows-1.given)
 
-pub slice_bounds-find_slots-end-in-Rows-7 : goal.slice_bounds-find_slots-end-in-Rows-7
-slice_bounds-find_slots-end-in-Rows-7 t c =
-    let w = within_rows c.args.heads.now c.args.rows.now c.in-Rows.is c.find-s.ensures.within in
+pub slice_bounds-find_slots-end-in-Ok-7 : goal.slice_bounds-find_slots-end-in-Ok-7
+slice_bounds-find_slots-end-in-Ok-7 t c =
+    let w = within_rows c.args.heads.now c.args.rows.now c.in-Ok.is c.find-s.ensures.within in
     omega (arith, w.2, c.rows-1.given)
 
 pub find_slots-t-requires : goal.find_slots-t-requires
@@ -154,28 +154,28 @@ find_slots-t-requires t c =
 pub overflow_add-result : goal.overflow_add-result
 overflow_add-result t c =
     let others = others-length c.args.file_lengths.now c.args.file_lengths.now c.if-file_lengths-eq0.false refl in
-    let w = within_rows c.args.heads.now c.args.rows.now c.in-Rows.is c.find-s.ensures.within in
-    let g = gathered_rows (length (mid_of 1 (length c.args.file_lengths.now - 1) c.args.file_lengths.now)) _ _ c.in-Rows-t.is c.find_slots-t.ensures.within in
+    let w = within_rows c.args.heads.now c.args.rows.now c.in-Ok.is c.find-s.ensures.within in
+    let g = gathered_rows (length (mid_of 1 (length c.args.file_lengths.now - 1) c.args.file_lengths.now)) _ _ c.in-Rows.is c.find_slots-t.ensures.within in
     omega (arith, w.0, g.0, others, c.requires.word_lengths_len.2, most_slots)
 
-pub overflow_add-result-in-Rows-t : goal.overflow_add-result-in-Rows-t
-overflow_add-result-in-Rows-t t c =
+pub overflow_add-result-in-Rows : goal.overflow_add-result-in-Rows
+overflow_add-result-in-Rows t c =
     let one = at_least_one c.args.file_lengths.now c.args.file_lengths.now c.if-file_lengths-eq0.false refl in
     let others = others-length c.args.file_lengths.now c.args.file_lengths.now c.if-file_lengths-eq0.false refl in
-    let g = gathered_rows (length (mid_of 1 (length c.args.file_lengths.now - 1) c.args.file_lengths.now)) _ _ c.in-Rows-t.is c.find_slots-t.ensures.within in
-    omega (arith, first_steps c.args.attention c.args.slot c.args.file_lengths.now c.args.word_lengths.now c.args.read_lengths.now c.args.files.now c.args.words.now c.args.read.now one c.requires.word_lengths_len.0 c.requires.word_lengths_len.1 c.find-s.new.heads c.find-s.new.rows c.in-Rows.is c.find-s.ensures.exact (λ i. (c.type_inv.files i).fits), g.3, others, c.requires.word_lengths_len.2, most_slots)
+    let g = gathered_rows (length (mid_of 1 (length c.args.file_lengths.now - 1) c.args.file_lengths.now)) _ _ c.in-Rows.is c.find_slots-t.ensures.within in
+    omega (arith, first_steps c.args.attention c.args.slot c.args.file_lengths.now c.args.word_lengths.now c.args.read_lengths.now c.args.files.now c.args.words.now c.args.read.now one c.requires.word_lengths_len.0 c.requires.word_lengths_len.1 c.find-s.new.heads c.find-s.new.rows c.in-Ok.is c.find-s.ensures.exact (λ i. (c.type_inv.files i).fits), g.3, others, c.requires.word_lengths_len.2, most_slots)
 
-pub shape_of-heads-in-Rows-t : goal.shape_of-heads-in-Rows-t
-shape_of-heads-in-Rows-t t c =
-    c.heads-in-Rows-1.given.1 ∙ c.heads-1.given
+pub shape_of-heads-in-Rows : goal.shape_of-heads-in-Rows
+shape_of-heads-in-Rows t c =
+    c.heads-in-Ok-1.given.1 ∙ c.heads-1.given
 
-pub shape_of-rows-in-Rows-t : goal.shape_of-rows-in-Rows-t
-shape_of-rows-in-Rows-t t c =
-    c.rows-in-Rows-1.given.1 ∙ c.rows-1.given
+pub shape_of-rows-in-Rows : goal.shape_of-rows-in-Rows
+shape_of-rows-in-Rows t c =
+    c.rows-in-Ok-1.given.1 ∙ c.rows-1.given
 
-pub returns-in-Rows-t : goal.returns-in-Rows-t
+pub returns-in-Rows : goal.returns-in-Rows
 unfolding is_gathered
-returns-in-Rows-t t c =
+returns-in-Rows t c =
     let one = at_least_one c.args.file_lengths.now c.args.file_lengths.now c.if-file_lengths-eq0.false refl in
     let one-w = at_least_one c.args.file_lengths.now c.args.word_lengths.now c.if-file_lengths-eq0.false c.requires.word_lengths_len.0 in
     let one-r = at_least_one c.args.file_lengths.now c.args.read_lengths.now c.if-file_lengths-eq0.false c.requires.word_lengths_len.1 in
@@ -183,31 +183,31 @@ returns-in-Rows-t t c =
     let in_words_lem = first_within c.args.file_lengths.now c.args.word_lengths.now c.args.words.now c.if-file_lengths-eq0.false c.requires.word_lengths_len.0 c.requires.file_lengths_value.1 in
     let in-read = first_within c.args.file_lengths.now c.args.read_lengths.now c.args.read.now c.if-file_lengths-eq0.false c.requires.word_lengths_len.1 c.requires.file_lengths_value.2 in
     let others = others-length c.args.file_lengths.now c.args.file_lengths.now c.if-file_lengths-eq0.false refl in
-    let w = within_rows c.args.heads.now c.args.rows.now c.in-Rows.is c.find-s.ensures.within in
-    let g = gathered_rows (length (mid_of 1 (length c.args.file_lengths.now - 1) c.args.file_lengths.now)) _ _ c.in-Rows-t.is c.find_slots-t.ensures.within in record {
+    let w = within_rows c.args.heads.now c.args.rows.now c.in-Ok.is c.find-s.ensures.within in
+    let g = gathered_rows (length (mid_of 1 (length c.args.file_lengths.now - 1) c.args.file_lengths.now)) _ _ c.in-Rows.is c.find_slots-t.ensures.within in record {
       exact = λ h.
-          put_joined c.args.attention _ c.find-s.new.heads c.find-s.new.rows c.find_slots-t.new.heads c.find_slots-t.new.rows c.in-Rows.x.rows (omega (arith, w.1, c.heads-1.given)) (omega (arith, w.2, c.rows-1.given))
-          (later_joined c.args.attention c.args.slot c.args.file_lengths.now c.args.word_lengths.now c.args.read_lengths.now c.args.files.now c.args.words.now c.args.read.now one c.requires.word_lengths_len.0 c.requires.word_lengths_len.1 c.find-s.new.heads c.find-s.new.rows c.in-Rows.is c.find-s.ensures.exact c.find_slots-t.new.heads c.find_slots-t.new.rows (omega (arith, w.1, c.heads-1.given)) (omega (arith, w.2, c.rows-1.given)) c.in-Rows-t.is
+          put_joined c.args.attention _ c.find-s.new.heads c.find-s.new.rows c.find_slots-t.new.heads c.find_slots-t.new.rows c.in-Ok.x.rows (omega (arith, w.1, c.heads-1.given)) (omega (arith, w.2, c.rows-1.given))
+          (later_joined c.args.attention c.args.slot c.args.file_lengths.now c.args.word_lengths.now c.args.read_lengths.now c.args.files.now c.args.words.now c.args.read.now one c.requires.word_lengths_len.0 c.requires.word_lengths_len.1 c.find-s.new.heads c.find-s.new.rows c.in-Ok.is c.find-s.ensures.exact c.find_slots-t.new.heads c.find_slots-t.new.rows (omega (arith, w.1, c.heads-1.given)) (omega (arith, w.2, c.rows-1.given)) c.in-Rows.is
           (λ h. c.find_slots-t.ensures.exact h ∙ rest_is c.args.attention c.args.slot c.args.file_lengths.now c.args.word_lengths.now c.args.read_lengths.now c.args.files.now c.args.words.now c.args.read.now one c.requires.word_lengths_len.0 c.requires.word_lengths_len.1 (mid_rest c.args.file_lengths.now 1 one) (mid_rest c.args.word_lengths.now 1 one-w) (mid_rest c.args.read_lengths.now 1 one-r) (mid_rest c.args.files.now _ in-files) (mid_rest c.args.words.now _ in_words_lem) (mid_rest c.args.read.now _ in-read)));
       enough = λ p q. refl;
       within = (
         omega (arith, w.0, g.0, others),
-        omega (arith, w.1, g.1, mid-length c.find-s.new.heads c.in-Rows.x.rows (omega (arith, w.1, c.heads-1.given)), c.heads-1.given),
-        omega (arith, w.2, g.2, mid-length c.find-s.new.rows c.in-Rows.x.rows (omega (arith, w.2, c.rows-1.given)), c.rows-1.given),
-        omega (arith, first_steps c.args.attention c.args.slot c.args.file_lengths.now c.args.word_lengths.now c.args.read_lengths.now c.args.files.now c.args.words.now c.args.read.now one c.requires.word_lengths_len.0 c.requires.word_lengths_len.1 c.find-s.new.heads c.find-s.new.rows c.in-Rows.is c.find-s.ensures.exact (λ i. (c.type_inv.files i).fits), g.3, others),
+        omega (arith, w.1, g.1, mid-length c.find-s.new.heads c.in-Ok.x.rows (omega (arith, w.1, c.heads-1.given)), c.heads-1.given),
+        omega (arith, w.2, g.2, mid-length c.find-s.new.rows c.in-Ok.x.rows (omega (arith, w.2, c.rows-1.given)), c.rows-1.given),
+        omega (arith, first_steps c.args.attention c.args.slot c.args.file_lengths.now c.args.word_lengths.now c.args.read_lengths.now c.args.files.now c.args.words.now c.args.read.now one c.requires.word_lengths_len.0 c.requires.word_lengths_len.1 c.find-s.new.heads c.find-s.new.rows c.in-Ok.is c.find-s.ensures.exact (λ i. (c.type_inv.files i).fits), g.3, others),
       );
     }
 
-pub shape_of-heads-in-Refused-t : goal.shape_of-heads-in-Refused-t
-shape_of-heads-in-Refused-t t c =
-    c.heads-in-Rows-1.given.1 ∙ c.heads-1.given
+pub shape_of-heads-in-Refused : goal.shape_of-heads-in-Refused
+shape_of-heads-in-Refused t c =
+    c.heads-in-Ok-1.given.1 ∙ c.heads-1.given
 
-pub shape_of-rows-in-Refused-t : goal.shape_of-rows-in-Refused-t
-shape_of-rows-in-Refused-t t c =
-    c.rows-in-Rows-1.given.1 ∙ c.rows-1.given
+pub shape_of-rows-in-Refused : goal.shape_of-rows-in-Refused
+shape_of-rows-in-Refused t c =
+    c.rows-in-Ok-1.given.1 ∙ c.rows-1.given
 
-pub returns-in-Refused-t : goal.returns-in-Refused-t
-returns-in-Refused-t t c =
+pub returns-in-Refused : goal.returns-in-Refused
+returns-in-Refused t c =
     let one = at_least_one c.args.file_lengths.now c.args.file_lengths.now c.if-file_lengths-eq0.false refl in
     let one-w = at_least_one c.args.file_lengths.now c.args.word_lengths.now c.if-file_lengths-eq0.false c.requires.word_lengths_len.0 in
     let one-r = at_least_one c.args.file_lengths.now c.args.read_lengths.now c.if-file_lengths-eq0.false c.requires.word_lengths_len.1 in
@@ -215,26 +215,26 @@ returns-in-Refused-t t c =
     let in_words_lem = first_within c.args.file_lengths.now c.args.word_lengths.now c.args.words.now c.if-file_lengths-eq0.false c.requires.word_lengths_len.0 c.requires.file_lengths_value.1 in
     let in-read = first_within c.args.file_lengths.now c.args.read_lengths.now c.args.read.now c.if-file_lengths-eq0.false c.requires.word_lengths_len.1 c.requires.file_lengths_value.2 in
     let others = others-length c.args.file_lengths.now c.args.file_lengths.now c.if-file_lengths-eq0.false refl in
-    let w = within_rows c.args.heads.now c.args.rows.now c.in-Rows.is c.find-s.ensures.within in
+    let w = within_rows c.args.heads.now c.args.rows.now c.in-Ok.is c.find-s.ensures.within in
     record {
-      exact = λ h. later_stopped c.args.attention c.args.slot c.args.file_lengths.now c.args.word_lengths.now c.args.read_lengths.now c.args.files.now c.args.words.now c.args.read.now one c.requires.word_lengths_len.0 c.requires.word_lengths_len.1 c.find-s.new.heads c.find-s.new.rows c.in-Rows.is c.find-s.ensures.exact c.find_slots-t.new.heads c.find_slots-t.new.rows c.find_slots-t.new.heads c.find_slots-t.new.rows c.in-Refused-t.is (λ h. c.find_slots-t.ensures.exact h ∙ rest_is c.args.attention c.args.slot c.args.file_lengths.now c.args.word_lengths.now c.args.read_lengths.now c.args.files.now c.args.words.now c.args.read.now one c.requires.word_lengths_len.0 c.requires.word_lengths_len.1 (mid_rest c.args.file_lengths.now 1 one) (mid_rest c.args.word_lengths.now 1 one-w) (mid_rest c.args.read_lengths.now 1 one-r) (mid_rest c.args.files.now _ in-files) (mid_rest c.args.words.now _ in_words_lem) (mid_rest c.args.read.now _ in-read)) h;
+      exact = λ h. later_stopped c.args.attention c.args.slot c.args.file_lengths.now c.args.word_lengths.now c.args.read_lengths.now c.args.files.now c.args.words.now c.args.read.now one c.requires.word_lengths_len.0 c.requires.word_lengths_len.1 c.find-s.new.heads c.find-s.new.rows c.in-Ok.is c.find-s.ensures.exact c.find_slots-t.new.heads c.find_slots-t.new.rows c.find_slots-t.new.heads c.find_slots-t.new.rows c.in-Refused.is (λ h. c.find_slots-t.ensures.exact h ∙ rest_is c.args.attention c.args.slot c.args.file_lengths.now c.args.word_lengths.now c.args.read_lengths.now c.args.files.now c.args.words.now c.args.read.now one c.requires.word_lengths_len.0 c.requires.word_lengths_len.1 (mid_rest c.args.file_lengths.now 1 one) (mid_rest c.args.word_lengths.now 1 one-w) (mid_rest c.args.read_lengths.now 1 one-r) (mid_rest c.args.files.now _ in-files) (mid_rest c.args.words.now _ in_words_lem) (mid_rest c.args.read.now _ in-read)) h;
       enough = λ p q.
-          stopped-gathered _ c.in-Refused-t.is
-          (c.find_slots-t.ensures.enough (omega (arith, p, w.0, w.1, c.heads-1.given, mid-length c.find-s.new.heads c.in-Rows.x.rows (omega (arith, w.1, c.heads-1.given)), others)) (omega (arith, q, w.0, w.2, c.rows-1.given, mid-length c.find-s.new.rows c.in-Rows.x.rows (omega (arith, w.2, c.rows-1.given)), others)));
+          stopped-gathered _ c.in-Refused.is
+          (c.find_slots-t.ensures.enough (omega (arith, p, w.0, w.1, c.heads-1.given, mid-length c.find-s.new.heads c.in-Ok.x.rows (omega (arith, w.1, c.heads-1.given)), others)) (omega (arith, q, w.0, w.2, c.rows-1.given, mid-length c.find-s.new.rows c.in-Ok.x.rows (omega (arith, w.2, c.rows-1.given)), others)));
       within = tt;
     }
 
-pub shape_of-heads-in-Refused : goal.shape_of-heads-in-Refused
-shape_of-heads-in-Refused t c = c.heads-1.given
+pub shape_of-heads-in-Err : goal.shape_of-heads-in-Err
+shape_of-heads-in-Err t c = c.heads-1.given
 
-pub shape_of-rows-in-Refused : goal.shape_of-rows-in-Refused
-shape_of-rows-in-Refused t c = c.rows-1.given
+pub shape_of-rows-in-Err : goal.shape_of-rows-in-Err
+shape_of-rows-in-Err t c = c.rows-1.given
 
-pub returns-in-Refused : goal.returns-in-Refused
-returns-in-Refused t c =
+pub returns-in-Err : goal.returns-in-Err
+returns-in-Err t c =
     let one = at_least_one c.args.file_lengths.now c.args.file_lengths.now c.if-file_lengths-eq0.false refl in
     record {
-      exact = λ h. slot_stopped c.args.attention c.args.slot c.args.file_lengths.now c.args.word_lengths.now c.args.read_lengths.now c.args.files.now c.args.words.now c.args.read.now one c.requires.word_lengths_len.0 c.requires.word_lengths_len.1 c.find-s.new.heads c.find-s.new.rows c.in-Refused.is c.find-s.ensures.exact h;
-      enough = λ p q. stopped_found _ c.in-Refused.is (c.find-s.ensures.enough (omega (arith, p, one)) (omega (arith, q, one)));
+      exact = λ h. slot_stopped c.args.attention c.args.slot c.args.file_lengths.now c.args.word_lengths.now c.args.read_lengths.now c.args.files.now c.args.words.now c.args.read.now one c.requires.word_lengths_len.0 c.requires.word_lengths_len.1 c.find-s.new.heads c.find-s.new.rows c.in-Err.is c.find-s.ensures.exact h;
+      enough = λ p q. stopped_found _ c.in-Err.is (c.find-s.ensures.enough (omega (arith, p, one)) (omega (arith, q, one)));
       within = tt;
     }

@@ -4,7 +4,7 @@ use Rattle.listing.proofs.PassLaws.{Gathered}
 use Rattle.listing.proofs.keep_bits.Given as goal
 
 abbrev pub invariant-loop-unseen : goal.invariant-loop-unseen
-invariant-loop-unseen l = Gathered l.active l.child l.i l.word l.unseen
+invariant-loop-unseen l = Gathered l.graph.active.now l.graph.children.now l.i l.word l.unseen
 
 abbrev pub decreases-loop-unseen : goal.decreases-loop-unseen
 decreases-loop-unseen l = ones l.unseen

@@ -1,35 +1,24 @@
-use mathlib.Core.Path.{◌∙◌}
-use native.Mathlib.Omega.{arith}
+use Rattle.std.proofs.Common.{arith, ◌∙◌}
 use Rattle.numbers.proofs.BigEndianLaws.{onward_start, onward_more, onward_end, room, step_below}
 use Rattle.numbers.proofs.big_endian.Goals as goal
 
-pub loop-i-init : goal.loop-i-init
-loop-i-init c = (omega arith, omega arith, onward_start _)
+pub loop-b-init : goal.loop-b-init
+loop-b-init c = record { below = omega arith; whole = onward_start _ }
 
 pub overflow_mul-value : goal.overflow_mul-value
-overflow_mul-value c =
-    omega (arith, room c.loop-i.i (omega arith), c.loop-i.invariant.1)
-
-pub bounds-s-i : goal.bounds-s-i
-bounds-s-i c = omega arith
-
-pub overflow_cast-value : goal.overflow_cast-value
-overflow_cast-value c = omega (arith, c.type_inv.s c.loop-i.i)
+overflow_mul-value c = omega (arith, room c.loop-b.b-index (omega arith))
 
 pub overflow_add-value : goal.overflow_add-value
-overflow_add-value c =
-    omega (arith, room c.loop-i.i (omega arith), c.loop-i.invariant.1, c.type_inv.s c.loop-i.i)
+overflow_add-value c = omega (arith, room c.loop-b.b-index (omega arith), c.type_inv.s c.loop-b.b-index)
 
-pub overflow_add-i : goal.overflow_add-i
-overflow_add-i c = omega arith
-
-pub loop-i-smaller : goal.loop-i-smaller
-loop-i-smaller c = omega arith
-
-pub loop-i-preserved : goal.loop-i-preserved
-loop-i-preserved c =
-    (omega arith, step_below _ _ _ c.loop-i.invariant.1 (c.type_inv.s c.loop-i.i).fits, onward_more _ _ _ c.loop-i-test.true ∙ c.loop-i.invariant.2)
+pub loop-b-preserved : goal.loop-b-preserved
+loop-b-preserved c =
+    let v = c.loop-b.value in
+    let i = c.loop-b.b-index in
+    record {
+      below = step_below v i _ c.loop-b.invariant.below (omega (arith, c.from.ensures, c.type_inv.s i));
+      whole = rw c.from.ensures (onward_more _ v i c.loop-b-test.true) ∙ c.loop-b.invariant.whole;
+    }
 
 pub returns : goal.returns
-returns c =
-    onward_end _ _ _ c.loop-i.invariant.2 c.loop-i-test.false
+returns c = onward_end _ _ _ c.loop-b.invariant.whole c.loop-b-test.false

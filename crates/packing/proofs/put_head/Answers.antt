@@ -1,13 +1,13 @@
-use native.Mathlib.Omega.{arith}
+use Rattle.std.proofs.Common.{arith}
 use Rattle.numbers.proofs.BigEndianLaws.{length_bytes}
 use Rattle.packing.proofs.BackLaws.{back_same, back_more}
 use Rattle.packing.proofs.put_head.Goals as goal
 
-pub put_back-requires : goal.put_back-requires
-put_back-requires c = (
-  omega (arith, c.put_back-a.ensures.starts, length_bytes c.args.size c.args.count, c.requires.0),
-  omega (arith, c.put_back-a.ensures.starts, back_same c.put_back-a.ensures, c.requires.1),
+pub put_bytes-requires : goal.put_bytes-requires
+put_bytes-requires c = (
+  omega (arith, c.put_back-a.ensures.starts, length_bytes),
+  omega (arith, c.put_back-a.ensures.starts, back_same c.put_back-a.ensures),
 )
 
 pub returns : goal.returns
-returns c = back_more c.put_back-a.ensures c.put_back.ensures
+returns c = back_more c.put_back-a.ensures c.put_bytes.ensures

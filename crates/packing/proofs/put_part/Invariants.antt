@@ -1,9 +1,6 @@
--- The invariant: the records behind the first `left` have been written. The measure is how many are left.
+use Rattle.std.proofs.Common.{◌/◌, length}
 use Rattle.packing.proofs.BackwardLaws.{Backward}
 use Rattle.packing.proofs.put_part.Given as goal
 
-abbrev pub invariant-loop-left : goal.invariant-loop-left
-invariant-loop-left l = Backward l.records l.start l.n l.initial.out l.at l.out l.place l.left l.near l.counts
-
-abbrev pub decreases-loop-left : goal.decreases-loop-left
-decreases-loop-left l = l.left
+abbrev pub invariant-loop-i : goal.invariant-loop-i
+invariant-loop-i l = Backward l.part 0 (length l.part / 16) l.initial.out l.at l.out l.place l.i l.near l.counts

@@ -1,27 +1,36 @@
-use native.Mathlib.Omega.{arith}
+use Rattle.std.proofs.Common.{arith, ◌≡◌, ◌≤◌, length}
+use lib.ListN.{drop_of_length-le}
+use Rattle.std.proofs.lemmas.List.{take_all}
 use Rattle.numbers.proofs.BigEndianLaws.{length_bytes}
-use Rattle.packing.proofs.BackLaws.{back_same, back_more}
-use Rattle.packing.specs.Writing.{piece_bytes}
+use Rattle.packing.specs.Writing.{pieces_bytes}
+use Rattle.packing.proofs.BackLaws.{back_none, back_same, back_more}
+use Rattle.packing.proofs.OwnLaws.{next_bytes, next_size}
 use Rattle.packing.proofs.put_pieces.Goals as goal
 
-pub put_back-b-requires : goal.put_back-b-requires
-put_back-b-requires c = (
-  omega (arith, c.put_back-c.ensures.starts, length_bytes c.args.p.fourth_size c.args.p.fourth, c.requires.0),
-  omega (arith, c.put_back-c.ensures.starts, back_same c.put_back-c.ensures, c.requires.1),
+pub loop-i-init : goal.loop-i-init
+unfolding pieces_bytes
+loop-i-init c =
+    let four : length c.args.pieces ≤ 4 = omega arith in
+    record { back = rw (drop_of_length-le c.args.pieces four) (back_none _ _ c.requires.1); room = rw (take_all 4 c.args.pieces four) c.requires.0 }
+
+pub put_back-place-requires : goal.put_back-place-requires
+put_back-place-requires c = (
+  omega (arith, c.loop-i.invariant.room, next_size c.args.pieces c.loop-i.i (omega arith) (omega arith)),
+  omega (arith, c.loop-i.invariant.back.starts, c.loop-i.invariant.back.within, back_same c.loop-i.invariant.back),
 )
 
-pub put_back-a-requires : goal.put_back-a-requires
-put_back-a-requires c = (
-  omega (arith, c.put_back-c.ensures.starts, c.put_back-b.ensures.starts, length_bytes c.args.p.fourth_size c.args.p.fourth, length_bytes c.args.p.third_size c.args.p.third, c.requires.0),
-  omega (arith, c.put_back-c.ensures.starts, c.put_back-b.ensures.starts, back_same c.put_back-c.ensures, back_same c.put_back-b.ensures, c.requires.1),
-)
-
-pub put_back-requires : goal.put_back-requires
-put_back-requires c = (
-  omega (arith, c.put_back-c.ensures.starts, c.put_back-b.ensures.starts, c.put_back-a.ensures.starts, length_bytes c.args.p.fourth_size c.args.p.fourth, length_bytes c.args.p.third_size c.args.p.third, length_bytes c.args.p.second_size c.args.p.second, c.requires.0),
-  omega (arith, c.put_back-c.ensures.starts, c.put_back-b.ensures.starts, c.put_back-a.ensures.starts, back_same c.put_back-c.ensures, back_same c.put_back-b.ensures, back_same c.put_back-a.ensures, c.requires.1),
-)
+pub loop-i-preserved : goal.loop-i-preserved
+loop-i-preserved c = record {
+  back = rw (next_bytes c.args.pieces c.loop-i.i (omega arith) (omega arith)) (back_more c.loop-i.invariant.back c.put_back-place.ensures);
+  room =
+      omega (
+        arith,
+        c.loop-i.invariant.room,
+        next_size c.args.pieces c.loop-i.i (omega arith) (omega arith),
+        c.put_back-place.ensures.starts,
+        length_bytes,
+      );
+}
 
 pub returns : goal.returns
-unfolding piece_bytes
-returns c = back_more (back_more (back_more c.put_back-c.ensures c.put_back-b.ensures) c.put_back-a.ensures) c.put_back.ensures
+returns c = let none : c.loop-i.i ≡ 0 = omega arith in rw none at c.loop-i.invariant.back

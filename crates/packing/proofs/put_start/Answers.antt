@@ -1,23 +1,23 @@
-use native.Mathlib.Omega.{arith}
-use Rattle.numbers.proofs.BigEndianLaws.{length_bytes}
-use Rattle.packing.proofs.BackLaws.{back_same, back_more}
+use Rattle.std.proofs.Common.{arith}
 use Rattle.numbers.specs.BigEndian.{bytes_of}
+use Rattle.numbers.proofs.BigEndianLaws.{length_bytes}
 use Rattle.format.specs.Keywords.{chipdata}
 use Rattle.format.specs.Encoding.{encode_start}
+use Rattle.packing.proofs.BackLaws.{back_same, back_more}
 use Rattle.packing.proofs.put_start.Goals as goal
 
 pub put_back-a-requires : goal.put_back-a-requires
 put_back-a-requires c = (
-  omega (arith, c.put_back-b.ensures.starts, length_bytes 1 1, c.requires.0),
-  omega (arith, c.put_back-b.ensures.starts, back_same c.put_back-b.ensures, c.requires.1),
+  omega (arith, c.put_back-b.ensures.starts, length_bytes),
+  omega (arith, c.put_back-b.ensures.starts, back_same c.put_back-b.ensures),
 )
 
-pub put_back-requires : goal.put_back-requires
-put_back-requires c = (
-  omega (arith, c.put_back-b.ensures.starts, length_bytes 1 1, c.put_back-a.ensures.starts, length_bytes 4 c.args.model, c.requires.0),
-  omega (arith, c.put_back-b.ensures.starts, c.put_back-a.ensures.starts, back_same c.put_back-b.ensures, back_same c.put_back-a.ensures, c.requires.1),
+pub put_bytes-requires : goal.put_bytes-requires
+put_bytes-requires c = (
+  omega (arith, c.put_back-b.ensures.starts, c.put_back-a.ensures.starts, length_bytes),
+  omega (arith, c.put_back-b.ensures.starts, c.put_back-a.ensures.starts, back_same c.put_back-b.ensures, back_same c.put_back-a.ensures),
 )
 
 pub returns : goal.returns
 unfolding encode_start chipdata bytes_of
-returns c = back_more (back_more c.put_back-b.ensures c.put_back-a.ensures) c.put_back.ensures
+returns c = back_more (back_more c.put_back-b.ensures c.put_back-a.ensures) c.put_bytes.ensures

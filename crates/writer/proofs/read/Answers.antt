@@ -1,13 +1,16 @@
-use mathlib.Core.Path.{sym, ◌∙◌, ap}
-use Rattle.format.specs.Refusals.{checked_values}
+use Rattle.std.proofs.lemmas.Result.{err_from_is_err_and}
 use Rattle.writer.proofs.CallLaws.{read_refused, read_short, read_fits}
 use Rattle.writer.proofs.read.Goals as goal
 
-pub returns-then-out-n : goal.returns-then-out-n
-returns-then-out-n c = read_short _ (λ i. (c.type_inv.file i).fits) _ _ (ap checked_values (sym c.in-Accepted.is) ∙ c.check-c.ensures) c.unpack-n.ensures.needed c.unpack-n.ensures.output c.if-out-n.true
+pub returns-in_err-check : goal.returns-in_err-check
+returns-in_err-check c =
+    let p = err_from_is_err_and c.from_residual.result c.from_residual.ensures.1 in
+    rw (p.1, p.2) (read_refused _ (λ i. (c.type_inv.file i).fits) _ _ c.in_err-check.ensures)
 
-pub returns-else-out-n : goal.returns-else-out-n
-returns-else-out-n c = read_fits _ (λ i. (c.type_inv.file i).fits) _ _ (ap checked_values (sym c.in-Accepted.is) ∙ c.check-c.ensures) c.unpack-n.ensures.needed c.unpack-n.ensures.output c.if-out-n.false
+pub returns-then-out-needed : goal.returns-then-out-needed
+returns-then-out-needed c =
+    rw (c.too_short.ensures.number, c.too_short.ensures.place)
+    (read_short _ (λ i. (c.type_inv.file i).fits) _ _ c.in_ok-check.ensures c.unpack-needed.ensures.needed c.unpack-needed.ensures.output c.if-out-needed.true)
 
-pub returns-in-Refused : goal.returns-in-Refused
-returns-in-Refused c = read_refused _ (λ i. (c.type_inv.file i).fits) _ c.in-Refused.is c.check-c.ensures
+pub returns : goal.returns
+returns c = read_fits _ (λ i. (c.type_inv.file i).fits) _ _ c.in_ok-check.ensures c.unpack-needed.ensures.needed c.unpack-needed.ensures.output c.if-out-needed.false

@@ -9,15 +9,15 @@ use Rattle.index.proofs.addresses.row_address.Goals as goal
 pub loop-left-init : goal.loop-left-init
 loop-left-init c = λ limit. seeking_begin _ _ _ _
 
-pub returns-in-At : goal.returns-in-At
-returns-in-At c =
+pub returns-in-Ok : goal.returns-in-Ok
+returns-in-Ok c =
     λ limit. seeking_found _ _ (c.loop-left.invariant limit) c.loop-left-test.true
-    (register_found limit _ _ c.head_at-h.ensures _ _ (λ limit total flags is m e. sym (ap address_values c.in-At.is) ∙ c.register_address-a.ensures limit total flags is m e) refl)
+    (register_found limit _ _ c.head_at-h.ensures _ _ (λ limit total flags is m e. sym (ap address_values c.in-Ok.is) ∙ c.register_address-a.ensures limit total flags is m e) refl)
 
 pub loop-left-preserved : goal.loop-left-preserved
 loop-left-preserved c =
     λ limit. seeking_next _ _ (c.loop-left.invariant limit) c.loop-left-test.true
-    (register_passed limit _ _ c.head_at-h.ensures _ _ (λ limit total flags is m e. sym (ap address_values c.in-Refused.is) ∙ c.register_address-a.ensures limit total flags is m e) refl
+    (register_passed limit _ _ c.head_at-h.ensures _ _ (λ limit total flags is m e. sym (ap address_values c.in-Err.is) ∙ c.register_address-a.ensures limit total flags is m e) refl
     c.after_instances-place.ensures)
 
 pub returns : goal.returns

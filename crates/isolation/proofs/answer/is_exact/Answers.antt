@@ -4,10 +4,10 @@ use lib.Dec.{eqb}
 use Rattle.isolation.specs.Outcome.{is_exact}
 use Rattle.isolation.proofs.answer.is_exact.Goals as goal
 
-pub returns-in-Done : goal.returns-in-Done
+pub returns-in-Ok : goal.returns-in-Ok
 unfolding is_exact
-returns-in-Done c = sym (ap is_exact c.in-Done.is)
+returns-in-Ok c = sym (ap is_exact c.in-Ok.is)
 
-pub returns-in-Refused : goal.returns-in-Refused
+pub returns-in-Err : goal.returns-in-Err
 unfolding is_exact
-returns-in-Refused c = ap (λ n. not (eqb n 43)) c.number.ensures ∙ sym (ap is_exact c.in-Refused.is)
+returns-in-Err c = ap (λ n. not (eqb n 43)) c.number.ensures ∙ sym (ap is_exact c.in-Err.is)

@@ -4,10 +4,10 @@ use lib.Dec.{eqb}
 use Rattle.isolation.specs.Rows.{is_found}
 use Rattle.isolation.proofs.answer.is_found.Goals as goal
 
-pub returns-in-Rows : goal.returns-in-Rows
+pub returns-in-Ok : goal.returns-in-Ok
 unfolding is_found
-returns-in-Rows c = sym (ap is_found c.in-Rows.is)
+returns-in-Ok c = sym (ap is_found c.in-Ok.is)
 
-pub returns-in-Refused : goal.returns-in-Refused
+pub returns-in-Err : goal.returns-in-Err
 unfolding is_found
-returns-in-Refused c = ap (λ n. not (eqb n 43)) c.number.ensures ∙ sym (ap is_found c.in-Refused.is)
+returns-in-Err c = ap (λ n. not (eqb n 43)) c.number.ensures ∙ sym (ap is_found c.in-Err.is)

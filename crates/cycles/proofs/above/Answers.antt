@@ -1,9 +1,0 @@
-use Rattle.std.proofs.Common.{ltb, rules}
-use Rattle.cycles.proofs.RankLaws.{ranks_nothing, ranks_child}
-use Rattle.cycles.proofs.above.Goals as goal
-
-pub returns-then-n-c : goal.returns-then-n-c
-returns-then-n-c c = ranks_nothing ltb _ _ _ _ c.child_at-c.ensures c.if-n-c.true
-
-pub returns : goal.returns
-returns c = ranks_child ltb _ _ _ _ c.child_at-c.ensures c.if-n-c.false (search rules)

@@ -1,5 +1,0 @@
-use Rattle.tables.proofs.TablesLaws.{set_beyond}
-use Rattle.tables.proofs.put.Goals as goal
-
-pub returns-else-k-table : goal.returns-else-k-table
-returns-else-k-table c = set_beyond _ _ _ c.if-k-table.false

@@ -1,9 +1,0 @@
--- The measure is what is left of the slice, whose length stays.
-use Rattle.std.proofs.Common.{◌≡◌, ◌-◌, length}
-use Rattle.vectors.proofs.lent.fill.Given as goal
-
-abbrev pub invariant-loop-i : goal.invariant-loop-i
-invariant-loop-i l = length l.s ≡ length l.initial.s
-
-abbrev pub decreases-loop-i : goal.decreases-loop-i
-decreases-loop-i l = length l.initial.s - l.i

@@ -1,9 +1,0 @@
--- The measure is how many counts are left.
-use Rattle.std.proofs.Common.{◌-◌, length}
-use Rattle.vectors.proofs.tally.total.Given as goal
-
-abbrev pub invariant-loop-i : goal.invariant-loop-i
-invariant-loop-i l = Unit {0}
-
-abbrev pub decreases-loop-i : goal.decreases-loop-i
-decreases-loop-i l = length l.counts - l.i
