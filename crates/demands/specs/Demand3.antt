@@ -102,7 +102,7 @@ module _ (of : LimitSet) (file : List ℕ) (attention : ℕ) (words read list : 
     pub succeeds : ((isolate (limits_of of) file attention words read list).number ≡ 0) ↔ Possible
     pub answers : (p : Possible) → Answer p (isolate (limits_of of) file attention words read list)
 
-  -- The same of an answer of `isolation::isolate` and the list after the call: it is `Done` exactly when isolation is possible, and then it is that answer.
+  -- The same of an answer of `isolation::isolate` and the list after the call: it is `Ok` exactly when isolation is possible, and then it is that answer.
   pub record Isolates (r : Result Isolation Refusal) (after : List ℕ) : Type 0 where
     pub succeeds : ((i : Isolation) × (r ≡ Ok i)) ↔ Possible
     pub answers : (p : Possible) → Answer p (outcome_of r after)
