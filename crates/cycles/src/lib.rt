@@ -190,19 +190,19 @@ impl Order for Backward {
 #[derive(Clone, Copy)]
 struct Search {
     // The number of each instance.
-    rank: [usize; limits::NODE_INSTANCES],
+    rank: [u16; limits::NODE_INSTANCES],
     // Where the search came from to each instance: how many instances there are, where it began with it.
-    from: [usize; limits::NODE_INSTANCES],
+    from: [u16; limits::NODE_INSTANCES],
 }
 
 // The number of an instance to which the search has not come.
-const UNMET: usize = 0;
+const UNMET: u16 = 0;
 
 // The turns are numbered from 1 to this: two for each instance.
 const TURNS: usize = 2 * limits::NODE_INSTANCES;
 
-// The numbers from this on are ranks.
-const RANKED: usize = TURNS + 1;
+// The numbers from this on are ranks. All of them, two for each turn, are within 16 bits.
+const RANKED: u16 = TURNS as u16 + 1;
 
 // What a look at an instance's children shows.
 // Kept: an enum of its own and no `Result`, since neither case is a failure.
@@ -211,12 +211,12 @@ enum Seen {
     // The first child to which the search has not come.
     Unmet(usize),
     // The search has come to all: the least of their numbers, or RANKED where none of them is open.
-    Met(usize),
+    Met(u16),
 }
 
 impl Search {
     // The ranks of the instance k / 64 and of the child that the place k holds. It looks at one place and two ranks.
-    fn ranks(&self, children: &Children, k: usize) -> Option<(usize, usize)>
+    fn ranks(&self, children: &Children, k: usize) -> Option<(u16, u16)>
         requires { k < children.now.size * 64 }
         ensures { (p : ℕ → ℕ → Bool) → pair_passes p result ≡ ranks_at p self.now.rank children.now.size children.now.table.now k }
     {
@@ -294,15 +294,15 @@ impl Search {
     fn meet(&mut self, c: usize, i: usize, t: usize)
         requires { c < library_limits.node_instances }
     {
-        self.rank[c] = t;
-        self.from[c] = i;
+        self.rank[c] = (t % 0x1_0000) as u16;
+        self.from[c] = (i % 0x1_0000) as u16;
     }
 
     // The search leaves i at the turn t, with all its children met and the least of their numbers. Where none of them is open, i is a component by itself. Where one leads to a turn before i's own, i stays open. Otherwise i and the open instances that the search met after it are a component: these are among the first n, and it looks at each number once.
-    fn leave(&mut self, n: usize, i: usize, least: usize, t: usize)
+    fn leave(&mut self, n: usize, i: usize, least: u16, t: usize)
         requires { (n ≤ library_limits.node_instances) × (i < n) × (t ≤ 2 * library_limits.node_instances) }
     {
-        let r = TURNS + t;
+        let r = (TURNS + t) as u16;
         let own = self.rank[i];
         if RANKED <= least {
             self.rank[i] = r;
@@ -329,7 +329,7 @@ impl Search {
             }
             Seen::Met(least) => {
                 self.leave(children.size, i, least, t);
-                let back = self.from[i];
+                let back = self.from[i] as usize;
                 if back < children.size {
                     Some(back)
                 } else {
@@ -354,7 +354,7 @@ impl Search {
             };
             next = self.turn(children, i, t);
         }
-        RANKED
+        TURNS + 1
     }
 
     // The search from each instance in turn. It takes at most two turns for each instance, each of which looks at up to 64 places; and for each component that has a cycle it looks at a number of each instance.
