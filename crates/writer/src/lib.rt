@@ -1,7 +1,7 @@
 // Chip data files written from records, and read into them. Neither call writes to the output before it is known that it will not refuse.
 #![tactic(auto)]
 
-ghost use Rattle.std.specs.Prelude.{◌≡◌};
+ghost use Rattle.std.specs.Prelude.{◌++◌, ◌≡◌, ◌≤◌, drop, length};
 ghost use Rattle.limits.specs.Limits.{library_limits};
 ghost use Rattle.format.specs.Parsed.{done};
 ghost use Rattle.format.specs.Refusals.{number_of};
@@ -27,6 +27,17 @@ fn too_short(needed: usize) -> Refusal
     }
 }
 
+// Some bytes at the front of an output that has room for them.
+// Kept: byte after byte and no `copy_from_slice`, with which the archive for C would need `memmove` from outside.
+fn copy(bytes: &[u8], out: &mut [u8])
+    requires { length bytes.now ≤ length out.old }
+    ensures { out.new ≡ bytes.now ++ drop (length bytes.now) out.old }
+{
+    for i in 0..bytes.len() {
+        out[i] = bytes[i];
+    }
+}
+
 // Some bytes in an output, and how many they are: 41 where it is too short.
 fn put_output(bytes: &[u8], out: &mut [u8]) -> Result<usize, Refusal>
     ensures { answer_of result out.new ≡ in_output out.old (done bytes.now 0) }
@@ -35,7 +46,7 @@ fn put_output(bytes: &[u8], out: &mut [u8]) -> Result<usize, Refusal>
     if out.len() < n {
         return Err(too_short(n));
     }
-    out[..n].copy_from_slice(bytes);
+    copy(bytes, out);
     Ok(n)
 }
 
