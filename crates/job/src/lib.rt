@@ -2,6 +2,7 @@
 #![tactic(auto)]
 
 ghost use Rattle.std.specs.Io.{ReadsAtMost};
+ghost use Rattle.std.specs.Prelude.{◌≤◌, IfOk, length};
 ghost use Rattle.job.specs.Printed.{Printed};
 
 use report::report;
@@ -25,7 +26,9 @@ fn read_full<R: Read>(input: &mut R, bytes: &mut [u8]) -> io::Result<usize>
 }
 
 // The first bytes of a file, as many as there are places for them. The file is read past these, so that it is known to be readable.
-fn read_file<'a, R: Files>(rt: &R, path: &str, bytes: &'a mut [u8]) -> io::Result<&'a [u8]> {
+fn read_file<'a, R: Files>(rt: &R, path: &str, bytes: &'a mut [u8]) -> io::Result<&'a [u8]>
+    ensures { IfOk result (λ read. length read.now ≤ length bytes.old) }
+{
     let mut file = fs::open(rt, path)?;
     let n = read_full(&mut file, bytes)?;
     file.read(&mut [0; 1])?;
