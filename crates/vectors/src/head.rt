@@ -1,5 +1,5 @@
 // What each case begins with, and what its kind allows there.
-ghost use Rattle.std.specs.Prelude.{◌+◌, ◌≤◌, ◌<◌, length, ⊤};
+ghost use Rattle.std.specs.Prelude.{◌<◌, ⊤};
 
 use crate::START;
 use crate::faults::NoCase;
@@ -84,11 +84,15 @@ pub struct Head {
     pub answer: [u32; 8],
 }
 
-// The number of 4 bytes at a place.
+// The number of 4 bytes at a place; 0 where they are not there.
+// Kept: a number and no `Option`, since it answers every place.
 pub fn four(s: &[u8], at: usize) -> u32
-    requires { at + 4 ≤ length s.now }
+    ensures { result < 4294967296 }
 {
-    u32::from_be_bytes([s[at], s[at + 1], s[at + 2], s[at + 3]])
+    match s.get(at..).unwrap_or(&[]).first_chunk() {
+        Some(bytes) => u32::from_be_bytes(*bytes),
+        None => 0,
+    }
 }
 
 // So many bytes from a place on, if they are there.
