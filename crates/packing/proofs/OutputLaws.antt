@@ -1,7 +1,7 @@
 -- The laws of the sections and of the file in the output.
 use Prim.Native.Nat.{ℕ, ◌+◌, ◌≤◌, ◌<◌}
 use mathlib.Core.List.{List, [], ◌++◌, append_assoc}
-use mathlib.Core.Path.{◌≡◌, sym, ◌∙◌, ap}
+use mathlib.Core.Path.{◌≡◌, refl, sym, ◌∙◌, ap}
 use native.Mathlib.Omega.{arith}
 use borrow.Author.Tests.{le-leb, lt-leb}
 use lib.ListN.{length}
@@ -18,6 +18,19 @@ use Rattle.packing.proofs.BackLaws.{back_same, back_more}
 use Rattle.packing.proofs.SizeLaws.{pack_size}
 use Rattle.packing.proofs.FileLaws.{roots-length, nodes-length, registers-length, size_of, size_parts, file_parts}
 
+-- The keywords as numbers.
+root_letters : bytes_of 4 0x524f_4f54 ≡ root
+unfolding bytes_of root
+root_letters = refl
+
+node_letters : bytes_of 4 0x4e4f_4445 ≡ node
+unfolding bytes_of node
+node_letters = refl
+
+regs_letters : bytes_of 4 0x5245_4753 ≡ regs
+unfolding bytes_of regs
+regs_letters = refl
+
 -- A section: its elements, and then its keyword and its count before them.
 module _ {rs : List Record} {old mid : List ℕ} {at : ℕ} {w : Written} (p : PartBack rs old mid at w) where
   -- There is room for the keyword and the count.
@@ -33,17 +46,17 @@ module _ {rs : List Record} {old mid : List ℕ} {at : ℕ} {w : Written} (p : P
         → Back old new at to (word ++ (bytes_of k count ++ (pack 0 rs (packed_of none [])).bytes))
     headed word k count h = rw append_assoc at (back_more p.bytes h)
 
-    pub roots_back : Back mid new w.at to (root ++ bytes_of 1 w.counts.roots) → Back old new at to (roots_section rs)
+    pub roots_back : Back mid new w.at to (bytes_of 4 0x524f_4f54 ++ bytes_of 1 w.counts.roots) → Back old new at to (roots_section rs)
     unfolding roots_section
-    roots_back h = headed root 1 (pack 0 rs (packed_of none [])).counts.roots (rw p.counts at h)
+    roots_back h = headed root 1 (pack 0 rs (packed_of none [])).counts.roots (rw (root_letters, p.counts) at h)
 
-    pub nodes_back : Back mid new w.at to (node ++ bytes_of 2 w.counts.nodes) → Back old new at to (nodes_section rs [])
+    pub nodes_back : Back mid new w.at to (bytes_of 4 0x4e4f_4445 ++ bytes_of 2 w.counts.nodes) → Back old new at to (nodes_section rs [])
     unfolding nodes_section
-    nodes_back h = headed node 2 (pack 0 rs (packed_of none [])).counts.nodes (rw p.counts at h)
+    nodes_back h = headed node 2 (pack 0 rs (packed_of none [])).counts.nodes (rw (node_letters, p.counts) at h)
 
-    pub registers_back : Back mid new w.at to (regs ++ bytes_of 3 w.counts.registers) → Back old new at to (registers_section rs [])
+    pub registers_back : Back mid new w.at to (bytes_of 4 0x5245_4753 ++ bytes_of 3 w.counts.registers) → Back old new at to (registers_section rs [])
     unfolding registers_section
-    registers_back h = headed regs 3 (pack 0 rs (packed_of none [])).counts.registers (rw p.counts at h)
+    registers_back h = headed regs 3 (pack 0 rs (packed_of none [])).counts.registers (rw (regs_letters, p.counts) at h)
 
 -- A section's length.
 pub section-length : (x : Section) (rs : List Record) → length (section_of x rs) ≡ head_size x + sizes 0 rs

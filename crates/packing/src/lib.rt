@@ -132,18 +132,8 @@ fn measured(p: Parts) -> usize
     31 + measure(p.registers) + measure(p.others) + measure(p.roots)
 }
 
-// Some bytes that end before a place: where they start.
-// Kept: the output and the place are two parameters, since of a struct of them each contract would have to say besides that it still holds the same lent output.
-fn put_bytes(out: &mut [u8], at: usize, bytes: &[u8]) -> usize
-    requires { (length bytes.now ≤ at) × (at ≤ length out.old) }
-    ensures { Back out.old out.new at result bytes.now }
-{
-    let start = at - bytes.len();
-    out[start..at].copy_from_slice(bytes);
-    start
-}
-
 // A number in n bytes that end before a place: where they start.
+// Kept: the output and the place are two parameters, since of a struct of them each contract would have to say besides that it still holds the same lent output.
 fn put_back(out: &mut [u8], at: usize, n: u8, v: u64) -> usize
     requires { (n ≤ at) × (at ≤ length out.old) }
     ensures { Back out.old out.new at result (bytes_of n v) }
@@ -306,13 +296,13 @@ fn put_part(out: &mut [u8], at: usize, part: &[u8]) -> Written
     Written { at: place, counts }
 }
 
-// A keyword and a count before a place: where they start.
-fn put_head(out: &mut [u8], at: usize, word: &[u8], size: u8, count: u64) -> usize
-    requires { (length word.now + size ≤ at) × (at ≤ length out.old) }
-    ensures { Back out.old out.new at result (word.now ++ bytes_of size count) }
+// A keyword, as a number of four bytes, and a count before a place: where they start.
+fn put_head(out: &mut [u8], at: usize, word: u64, size: u8, count: u64) -> usize
+    requires { (4 + size ≤ at) × (at ≤ length out.old) }
+    ensures { Back out.old out.new at result (bytes_of 4 word ++ bytes_of size count) }
 {
     let a = put_back(out, at, size, count);
-    put_bytes(out, a, word)
+    put_back(out, a, 4, word)
 }
 
 // "CHIPDATA", the model/level and version 1 before a place: where they start.
@@ -322,7 +312,7 @@ fn put_start(out: &mut [u8], at: usize, model: u32) -> usize
 {
     let b = put_back(out, at, 1, 1);
     let a = put_back(out, b, 4, model as u64);
-    put_bytes(out, a, &format::CHIPDATA)
+    put_back(out, a, 8, 0x4348_4950_4441_5441)
 }
 
 // A section before a place: where it starts.
@@ -332,9 +322,9 @@ fn put_section(out: &mut [u8], at: usize, part: &[u8], section: Section) -> usiz
 {
     let Written { at: start, counts } = put_part(out, at, part);
     match section {
-        Section::Registers => put_head(out, start, &format::REGS, 3, counts.registers),
-        Section::Nodes => put_head(out, start, &format::NODE, 2, counts.nodes),
-        Section::Roots => put_head(out, start, &format::ROOT, 1, counts.roots),
+        Section::Registers => put_head(out, start, 0x5245_4753, 3, counts.registers),
+        Section::Nodes => put_head(out, start, 0x4e4f_4445, 2, counts.nodes),
+        Section::Roots => put_head(out, start, 0x524f_4f54, 1, counts.roots),
     }
 }
 

@@ -1,4 +1,3 @@
-use Rattle.format.specs.Keywords.{regs, node, root}
 use Rattle.packing.proofs.OutputLaws.{head_room, roots_back, nodes_back, registers_back}
 use Rattle.packing.proofs.put_section.Goals as goal
 
@@ -12,13 +11,10 @@ pub put_head-requires-in-Roots : goal.put_head-requires-in-Roots
 put_head-requires-in-Roots c = head_room c.put_part-start.ensures 5 (rw c.in-Roots.is at c.requires.0)
 
 pub returns-in-Registers : goal.returns-in-Registers
-unfolding regs
 returns-in-Registers c = rw c.in-Registers.is (registers_back c.put_part-start.ensures c.put_head.ensures)
 
 pub returns-in-Nodes : goal.returns-in-Nodes
-unfolding node
 returns-in-Nodes c = rw c.in-Nodes.is (nodes_back c.put_part-start.ensures c.put_head-in-Nodes.ensures)
 
 pub returns-in-Roots : goal.returns-in-Roots
-unfolding root
 returns-in-Roots c = rw c.in-Roots.is (roots_back c.put_part-start.ensures c.put_head-in-Roots.ensures)

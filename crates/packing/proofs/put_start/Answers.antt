@@ -12,12 +12,12 @@ put_back-a-requires c = (
   omega (arith, c.put_back-b.ensures.starts, back_same c.put_back-b.ensures),
 )
 
-pub put_bytes-requires : goal.put_bytes-requires
-put_bytes-requires c = (
+pub put_back-requires : goal.put_back-requires
+put_back-requires c = (
   omega (arith, c.put_back-b.ensures.starts, c.put_back-a.ensures.starts, length_bytes),
   omega (arith, c.put_back-b.ensures.starts, c.put_back-a.ensures.starts, back_same c.put_back-b.ensures, back_same c.put_back-a.ensures),
 )
 
 pub returns : goal.returns
 unfolding encode_start chipdata bytes_of
-returns c = back_more (back_more c.put_back-b.ensures c.put_back-a.ensures) c.put_bytes.ensures
+returns c = back_more (back_more c.put_back-b.ensures c.put_back-a.ensures) c.put_back.ensures
