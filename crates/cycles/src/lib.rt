@@ -201,7 +201,7 @@ const UNMET: u16 = 0;
 // The turns are numbered from 1 to this: two for each instance.
 const TURNS: usize = 2 * limits::NODE_INSTANCES;
 
-// The numbers from this on are ranks. All of them, two for each turn, are within 16 bits.
+// The numbers from this on are ranks. Turns and ranks are within 16 bits.
 const RANKED: u16 = TURNS as u16 + 1;
 
 // What a look at an instance's children shows.

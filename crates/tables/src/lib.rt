@@ -20,7 +20,10 @@ pub fn key(id: u64, number: u8) -> u64
 pub fn position_of(table: &[u64], x: u64) -> usize
     ensures { result ≡ position (λ y. eqb y x) table.now }
 {
-    table.iter().position(|y| *y == x).unwrap_or(table.len())
+    match table.iter().position(|y| *y == x) {
+        Some(i) => i,
+        None => table.len(),
+    }
 }
 
 // The position of the register instance or node instance of a name among keys, or the number of keys.
